@@ -1,0 +1,68 @@
+-- Two outcomes that a contract allows are equal: one result, and one content of the buffer. Stated over `Reads.Post`, which the check
+-- reads off the source's own clauses. Assumes nothing.
+use mathlib.Core.Path.{_≡_, sym, _∙_}
+use denote.Ref.{now}
+use Rattle.octets.proofs.bits.level_of.Reads as level-of
+use Rattle.octets.proofs.bits.version_of.Reads as version-of
+use Rattle.octets.proofs.bits.first_octet.Reads as first-octet
+use Rattle.octets.proofs.bits.period_code_of.Reads as period-code-of
+use Rattle.octets.proofs.bits.rdi_of.Reads as rdi-of
+use Rattle.octets.proofs.bits.ccm_flags.Reads as ccm-flags
+use Rattle.octets.proofs.bits.mep_id_of.Reads as mep-id-of
+use Rattle.octets.proofs.numbers.octet.Reads as octet
+use Rattle.octets.proofs.numbers.read_big.Reads as read-big
+use Rattle.octets.proofs.numbers.read_little.Reads as read-little
+use Rattle.octets.proofs.numbers.read_signed.Reads as read-signed
+use Rattle.octets.proofs.numbers.write_big.Reads as write-big
+use Rattle.octets.proofs.numbers.write_little.Reads as write-little
+use Rattle.octets.proofs.numbers.write_signed.Reads as write-signed
+use Rattle.octets.proofs.runs.copy_octets.Reads as copy-octets
+use Rattle.octets.proofs.runs.same_octets.Reads as same-octets
+
+pub level-of-one : (κs : _) (a : _) (r r′ : _) (s s′ : _) → level-of.Post κs a r s → level-of.Post κs a r′ s′ → r ≡ r′
+level-of-one κs a r r′ s s′ p q = p ∙ sym q
+
+pub version-of-one : (κs : _) (a : _) (r r′ : _) (s s′ : _) → version-of.Post κs a r s → version-of.Post κs a r′ s′ → r ≡ r′
+version-of-one κs a r r′ s s′ p q = p ∙ sym q
+
+pub first-octet-one : (κs : _) (a : _) (r r′ : _) (s s′ : _) → first-octet.Post κs a r s → first-octet.Post κs a r′ s′ → r ≡ r′
+first-octet-one κs a r r′ s s′ p q = p ∙ sym q
+
+pub period-code-of-one : (κs : _) (a : _) (r r′ : _) (s s′ : _) → period-code-of.Post κs a r s → period-code-of.Post κs a r′ s′ → r ≡ r′
+period-code-of-one κs a r r′ s s′ p q = p ∙ sym q
+
+pub rdi-of-one : (κs : _) (a : _) (r r′ : _) (s s′ : _) → rdi-of.Post κs a r s → rdi-of.Post κs a r′ s′ → r ≡ r′
+rdi-of-one κs a r r′ s s′ p q = p ∙ sym q
+
+pub ccm-flags-one : (κs : _) (a : _) (r r′ : _) (s s′ : _) → ccm-flags.Post κs a r s → ccm-flags.Post κs a r′ s′ → r ≡ r′
+ccm-flags-one κs a r r′ s s′ p q = p ∙ sym q
+
+pub mep-id-of-one : (κs : _) (a : _) (r r′ : _) (s s′ : _) → mep-id-of.Post κs a r s → mep-id-of.Post κs a r′ s′ → r ≡ r′
+mep-id-of-one κs a r r′ s s′ p q = p ∙ sym q
+
+pub octet-one : (κs : _) (a : _) (r r′ : _) (s s′ : _) → octet.Post κs a r s → octet.Post κs a r′ s′ → r ≡ r′
+octet-one κs a r r′ s s′ p q = p .0 ∙ sym (q .0)
+
+pub read-big-one : (κs : _) (a : _) (r r′ : _) (s s′ : _) → read-big.Post κs a r s → read-big.Post κs a r′ s′ → r ≡ r′
+read-big-one κs a r r′ s s′ p q = p .0 ∙ sym (q .0)
+
+pub read-little-one : (κs : _) (a : _) (r r′ : _) (s s′ : _) → read-little.Post κs a r s → read-little.Post κs a r′ s′ → r ≡ r′
+read-little-one κs a r r′ s s′ p q = p .0 ∙ sym (q .0)
+
+pub read-signed-one : (κs : _) (a : _) (r r′ : _) (s s′ : _) → read-signed.Post κs a r s → read-signed.Post κs a r′ s′ → r ≡ r′
+read-signed-one κs a r r′ s s′ p q = p ∙ sym q
+
+pub write-big-one : (κs : _) (a : _) (r r′ : _) (s s′ : _) → write-big.Post κs a r s → write-big.Post κs a r′ s′ → now (s .0) ≡ now (s′ .0)
+write-big-one κs a r r′ s s′ p q = p ∙ sym q
+
+pub write-little-one : (κs : _) (a : _) (r r′ : _) (s s′ : _) → write-little.Post κs a r s → write-little.Post κs a r′ s′ → now (s .0) ≡ now (s′ .0)
+write-little-one κs a r r′ s s′ p q = p ∙ sym q
+
+pub write-signed-one : (κs : _) (a : _) (r r′ : _) (s s′ : _) → write-signed.Post κs a r s → write-signed.Post κs a r′ s′ → now (s .0) ≡ now (s′ .0)
+write-signed-one κs a r r′ s s′ p q = p ∙ sym q
+
+pub copy-octets-one : (κs : _) (a : _) (r r′ : _) (s s′ : _) → copy-octets.Post κs a r s → copy-octets.Post κs a r′ s′ → now (s .0) ≡ now (s′ .0)
+copy-octets-one κs a r r′ s s′ p q = p ∙ sym q
+
+pub same-octets-one : (κs : _) (a : _) (r r′ : _) (s s′ : _) → same-octets.Post κs a r s → same-octets.Post κs a r′ s′ → r ≡ r′
+same-octets-one κs a r r′ s s′ p q = p ∙ sym q

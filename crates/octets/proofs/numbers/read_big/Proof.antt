@@ -1,0 +1,71 @@
+-- `octets::numbers::read_big` meets its contract. The loop's invariant: r is the number in the first i octets. The measure is what is left of n.
+use native.Mathlib.Omega.{arith}
+use mathlib.Core.Path.{_≡_, ap, sym, _∙_}
+use Prim.Native.Nat.{ℕ, _+_, _*_, _^_, _-_, _≤_, _<_}
+use denote.Ref.{now}
+use Rattle.whole.specs.Lists.{part}
+use Rattle.octets.specs.Numbers.{number, bigEndian}
+use Rattle.octets.proofs.Turns.{big-turn, big-none, more-below, most-below}
+use Rattle.octets.proofs.numbers.read_big.Statement.{statement}
+use Rattle.octets.proofs.numbers.read_big.Tie as tie
+
+abbrev Inv-loop : tie.InvT-loop
+Inv-loop from at n r₀ i₀ r i = (i ≤ n) × ((r ≡ number bigEndian (part at i from)) × (r < 256 ^ i))
+
+abbrev μ-loop : tie.MeasureT-loop
+μ-loop from at n r₀ i₀ r i = n - i
+
+loop-holds : tie.Need-loop-holds Inv-loop μ-loop
+loop-holds c = (omega arith, (big-none (c .before .args .at) (now (c .before .args .from)), omega arith))
+
+mul-r : tie.Need-mul-r Inv-loop μ-loop
+mul-r c = let l = c .before .loop in omega (arith, more-below (l .i) (l .r) 0 (l .inv .1 .1) (omega arith), most-below (l .i + 1) (omega arith))
+
+add-octet : tie.Need-add-octet Inv-loop μ-loop
+add-octet c = omega arith
+
+octet-requires : tie.Need-octet-requires Inv-loop μ-loop
+octet-requires c κs = omega arith
+
+add-r : tie.Need-add-r Inv-loop μ-loop
+add-r c = let l = c .before .before .loop in omega (arith, more-below (l .i) (l .r) (c .octet .result) (l .inv .1 .1) (omega arith), most-below (l .i + 1) (omega arith))
+
+add-i : tie.Need-add-i Inv-loop μ-loop
+add-i c = omega arith
+
+loop-less : tie.Need-loop-less Inv-loop μ-loop
+loop-less c = omega arith
+
+loop-again : tie.Need-loop-again Inv-loop μ-loop
+loop-again c = let l = c .before .before .loop in
+    let a = c .before .before .before .before .args in (
+      omega arith,
+      (
+        ap (λ (k : ℕ). k * 256 + c .octet .result) (l .inv .1 .0)
+            ∙ ap (λ (k : ℕ). number bigEndian (part (a .at) (l .i) (now (a .from))) * 256 + k) (c .octet .ensures .0)
+            ∙ sym (big-turn (a .at) (l .i) (now (a .from)) (omega arith)),
+        more-below (l .i) (l .r) (c .octet .result) (l .inv .1 .1) (omega arith),
+      ),
+    )
+
+returns : tie.Need-returns Inv-loop μ-loop
+returns c = let l = c .before .loop in
+    let a = c .before .before .before .args in
+    let e : l .i ≡ a .n = omega arith in
+    rw (sym e) (l .inv .1)
+
+pub read-big-spec : {M : Type 1} → statement M
+read-big-spec =
+    tie.close
+    (tie.spec
+    Inv-loop
+    μ-loop
+    loop-holds
+    mul-r
+    add-octet
+    octet-requires
+    add-r
+    add-i
+    loop-less
+    loop-again
+    returns)

@@ -1,0 +1,59 @@
+-- A number in n octets, for every n and both orders. The paper, "Numbers": wire numbers are big-endian; "Stored records": those are
+-- little-endian. Definitions and statements only.
+use Prim.Native.Nat.{ℕ, zero, suc, _+_, _*_, _/_, _%_, _^_, _≤_, _<_}
+use mathlib.Core.Path.{_≡_}
+use mathlib.Core.List.{List, [], _∷_, reverse}
+use mathlib.Core.Logic.{_⊎_}
+use lib.IntN.{ℤ, negsuc}
+use lib.ListN.{length, getD}
+use mir.Syntax.{w64}
+use mir.Val.{SFits, toZ, ofZ}
+use Rattle.whole.specs.Lists.{part, laid}
+
+-- which octet comes first: the lowest or the highest
+pub data Order : Type 0 where
+  littleEndian : Order
+  bigEndian : Order
+
+-- the number that octets spell, the first the lowest
+unfoldable pub lowestFirst : List ℕ → ℕ
+lowestFirst [] = 0
+lowestFirst (x ∷ xs) = x + 256 * lowestFirst xs
+
+-- v in n octets, the lowest first; what does not fit in them is left out
+unfoldable pub spelled : ℕ → ℕ → List ℕ
+spelled zero v = []
+spelled (suc n) v = v % 256 ∷ spelled n (v / 256)
+
+-- the number that octets spell in an order: big-endian is little-endian from the other end
+unfoldable pub number : Order → List ℕ → ℕ
+number littleEndian xs = lowestFirst xs
+number bigEndian xs = lowestFirst (reverse xs)
+
+-- v in n octets of an order
+unfoldable pub inOctets : Order → ℕ → ℕ → List ℕ
+inOctets littleEndian n v = spelled n v
+inOctets bigEndian n v = reverse (spelled n v)
+
+-- every element is an octet; past the end `getD` gives 0, which is one
+abbrev pub Octets : List ℕ → Type 0
+Octets xs = (i : ℕ) → getD xs i 0 < 256
+
+-- what is said of numbers in octets, each once for both orders and every n
+pub record Numbers : Type 0 where
+  -- n octets are written
+  pub size : (o : Order) (n v : ℕ) → length (inOctets o n v) ≡ n
+  pub octets : (o : Order) (n v : ℕ) → Octets (inOctets o n v)
+  -- n octets are a number below 256 ^ n
+  pub below : (o : Order) (xs : List ℕ) → Octets xs → number o xs < 256 ^ length xs
+  -- a number below 256 ^ n comes back from its n octets, and n octets from their number
+  pub back : (o : Order) (n v : ℕ) → v < 256 ^ n → number o (inOctets o n v) ≡ v
+  pub again : (o : Order) (xs : List ℕ) → Octets xs → inOctets o (length xs) (number o xs) ≡ xs
+  -- what is put at a place reads back there, and every other octet is as it was
+  pub put-back : (o : Order) (n at v : ℕ) (s : List ℕ) → at + n ≤ length s → v < 256 ^ n → number o (part at n (laid at (inOctets o n v) s)) ≡ v
+  pub put-others : (o : Order) (n at v : ℕ) (s : List ℕ) (i : ℕ) → at + n ≤ length s → (i < at) ⊎ (at + n ≤ i)
+      → getD (laid at (inOctets o n v) s) i 0 ≡ getD s i 0
+  -- a signed number of 64 bits, -2 ^ 63 included, comes back from the eight octets it is put into
+  pub signed-back : (at : ℕ) (z : ℤ) (s : List ℕ) → at + 8 ≤ length s → SFits w64 z
+      → toZ w64 (number littleEndian (part at 8 (laid at (inOctets littleEndian 8 (ofZ w64 z)) s))) ≡ z
+  pub lowest-fits : SFits w64 (negsuc 9223372036854775807)

@@ -1,0 +1,114 @@
+// A number in n octets, read from a slice at a place and written into one.
+ghost use mathlib.Core.Path.{_≡_};
+ghost use Prim.Native.Nat.{_+_, _^_, _≤_, _<_};
+ghost use lib.ListN.{length, getD};
+ghost use mir.Syntax.{w64};
+ghost use mir.Val.{toZ, ofZ};
+ghost use Rattle.whole.specs.Lists.{part, laid};
+ghost use Rattle.octets.specs.Numbers.{number, inOctets, littleEndian, bigEndian};
+
+// The octet at a place, widened.
+pub fn octet(from: &[u8], at: usize) -> u32
+    requires { ⌜ at < length (now from) ⌝ }
+    ensures { λ r. ⌜ (r ≡ getD (now (from .entry)) at 0) × (r < 256) ⌝ }
+{
+    from[at] as u32
+}
+
+// The number in the n octets at a place, the highest first, as on the wire.
+pub fn read_big(from: &[u8], at: usize, n: usize) -> u32
+    requires { ⌜ (n ≤ 4) × (at + n ≤ length (now from)) ⌝ }
+    ensures { λ r. ⌜ (r ≡ number bigEndian (part at n (now (from .entry)))) × (r < 256 ^ n) ⌝ }
+{
+    let mut r: u32 = 0;
+    let mut i: usize = 0;
+    while i < n {
+        r = r * 256 + octet(from, at + i);
+        i += 1;
+    }
+    r
+}
+
+// The number in the n octets at a place, the lowest first, as in stored records.
+pub fn read_little(from: &[u8], at: usize, n: usize) -> u32
+    requires { ⌜ (n ≤ 4) × (at + n ≤ length (now from)) ⌝ }
+    ensures { λ r. ⌜ (r ≡ number littleEndian (part at n (now (from .entry)))) × (r < 256 ^ n) ⌝ }
+{
+    let mut r: u32 = 0;
+    let mut i: usize = n;
+    while 0 < i {
+        i -= 1;
+        r = r * 256 + octet(from, at + i);
+    }
+    r
+}
+
+// Writes a value into the n octets at a place, the highest first; what does not fit in them is left out.
+pub fn write_big(into: &mut [u8], at: usize, n: usize, value: u32)
+    requires { ⌜ at + n ≤ length (now into) ⌝ }
+    ensures { λ _. ⌜ now (into .exit) ≡ laid at (inOctets bigEndian n value) (now (into .entry)) ⌝ }
+{
+    let mut rest = value;
+    let mut i: usize = n;
+    while 0 < i {
+        i -= 1;
+        into[at + i] = (rest & 255) as u8;
+        rest = rest >> 8;
+    }
+}
+
+// Writes a value into the n octets at a place, the lowest first; what does not fit in them is left out.
+pub fn write_little(into: &mut [u8], at: usize, n: usize, value: u32)
+    requires { ⌜ at + n ≤ length (now into) ⌝ }
+    ensures { λ _. ⌜ now (into .exit) ≡ laid at (inOctets littleEndian n value) (now (into .entry)) ⌝ }
+{
+    let mut rest = value;
+    let mut i: usize = 0;
+    while i < n {
+        into[at + i] = (rest & 255) as u8;
+        rest = rest >> 8;
+        i += 1;
+    }
+}
+
+// The signed number whose two's complement is these bits. (A cast of bits above 2^63 is refused, so it counts down from -1.)
+fn signed_of(bits: u64) -> i64
+    ensures { λ r. ⌜ r ≡ toZ w64 bits ⌝ }
+{
+    if bits < 9223372036854775808 {
+        bits as i64
+    } else {
+        -1 - ((18446744073709551615 - bits) as i64)
+    }
+}
+
+// The two's complement of a signed number.
+fn bits_of(value: i64) -> u64
+    ensures { λ r. ⌜ r ≡ ofZ w64 value ⌝ }
+{
+    if value < 0 {
+        18446744073709551615 - ((-1 - value) as u64)
+    } else {
+        value as u64
+    }
+}
+
+// The signed number in the eight octets at a place, two's complement, the lowest first.
+pub fn read_signed(from: &[u8], at: usize) -> i64
+    requires { ⌜ at + 8 ≤ length (now from) ⌝ }
+    ensures { λ r. ⌜ r ≡ toZ w64 (number littleEndian (part at 8 (now (from .entry)))) ⌝ }
+{
+    let low = read_little(from, at, 4) as u64;
+    let high = read_little(from, at + 4, 4) as u64;
+    signed_of(low + high * 4294967296)
+}
+
+// Writes a signed number into the eight octets at a place, two's complement, the lowest first.
+pub fn write_signed(into: &mut [u8], at: usize, value: i64)
+    requires { ⌜ at + 8 ≤ length (now into) ⌝ }
+    ensures { λ _. ⌜ now (into .exit) ≡ laid at (inOctets littleEndian 8 (ofZ w64 value)) (now (into .entry)) ⌝ }
+{
+    let bits = bits_of(value);
+    write_little(into, at, 4, (bits % 4294967296) as u32);
+    write_little(into, at + 4, 4, (bits / 4294967296) as u32);
+}

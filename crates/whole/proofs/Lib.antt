@@ -1,0 +1,6 @@
+pub mod Tests
+pub mod Lists
+pub mod Loops
+pub mod Kept
+pub mod Signed
+pub mod Stored

@@ -1,4 +1,3 @@
 pub mod Laws
-pub mod Fields
 pub mod Turns
 pub mod One

@@ -2,13 +2,6 @@
 -- reads off the source's own clauses. Assumes nothing.
 use mathlib.Core.Path.{_≡_, sym, _∙_}
 use denote.Ref.{now}
-use Rattle.octets.proofs.bits.level_of.Reads as level-of
-use Rattle.octets.proofs.bits.version_of.Reads as version-of
-use Rattle.octets.proofs.bits.first_octet.Reads as first-octet
-use Rattle.octets.proofs.bits.period_code_of.Reads as period-code-of
-use Rattle.octets.proofs.bits.rdi_of.Reads as rdi-of
-use Rattle.octets.proofs.bits.ccm_flags.Reads as ccm-flags
-use Rattle.octets.proofs.bits.mep_id_of.Reads as mep-id-of
 use Rattle.octets.proofs.numbers.octet.Reads as octet
 use Rattle.octets.proofs.numbers.read_big.Reads as read-big
 use Rattle.octets.proofs.numbers.read_little.Reads as read-little
@@ -18,27 +11,6 @@ use Rattle.octets.proofs.numbers.write_little.Reads as write-little
 use Rattle.octets.proofs.numbers.write_signed.Reads as write-signed
 use Rattle.octets.proofs.runs.copy_octets.Reads as copy-octets
 use Rattle.octets.proofs.runs.same_octets.Reads as same-octets
-
-pub level-of-one : (κs : _) (a : _) (r r′ : _) (s s′ : _) → level-of.Post κs a r s → level-of.Post κs a r′ s′ → r ≡ r′
-level-of-one κs a r r′ s s′ p q = p ∙ sym q
-
-pub version-of-one : (κs : _) (a : _) (r r′ : _) (s s′ : _) → version-of.Post κs a r s → version-of.Post κs a r′ s′ → r ≡ r′
-version-of-one κs a r r′ s s′ p q = p ∙ sym q
-
-pub first-octet-one : (κs : _) (a : _) (r r′ : _) (s s′ : _) → first-octet.Post κs a r s → first-octet.Post κs a r′ s′ → r ≡ r′
-first-octet-one κs a r r′ s s′ p q = p ∙ sym q
-
-pub period-code-of-one : (κs : _) (a : _) (r r′ : _) (s s′ : _) → period-code-of.Post κs a r s → period-code-of.Post κs a r′ s′ → r ≡ r′
-period-code-of-one κs a r r′ s s′ p q = p ∙ sym q
-
-pub rdi-of-one : (κs : _) (a : _) (r r′ : _) (s s′ : _) → rdi-of.Post κs a r s → rdi-of.Post κs a r′ s′ → r ≡ r′
-rdi-of-one κs a r r′ s s′ p q = p ∙ sym q
-
-pub ccm-flags-one : (κs : _) (a : _) (r r′ : _) (s s′ : _) → ccm-flags.Post κs a r s → ccm-flags.Post κs a r′ s′ → r ≡ r′
-ccm-flags-one κs a r r′ s s′ p q = p ∙ sym q
-
-pub mep-id-of-one : (κs : _) (a : _) (r r′ : _) (s s′ : _) → mep-id-of.Post κs a r s → mep-id-of.Post κs a r′ s′ → r ≡ r′
-mep-id-of-one κs a r r′ s s′ p q = p ∙ sym q
 
 pub octet-one : (κs : _) (a : _) (r r′ : _) (s s′ : _) → octet.Post κs a r s → octet.Post κs a r′ s′ → r ≡ r′
 octet-one κs a r r′ s s′ p q = p .0 ∙ sym (q .0)

@@ -1,4 +1,3 @@
-// Numbers in octets, the bits of an octet, and runs of octets copied and compared. Inner: callers meet the `requires`.
-pub mod bits;
+// Numbers in octets, and runs of octets copied and compared. Inner: callers meet the `requires`.
 pub mod numbers;
 pub mod runs;

@@ -20,13 +20,13 @@ pub fn read_big(from: &[u8], at: usize, n: usize) -> u32
     requires { ⌜ (n ≤ 4) × (at + n ≤ length (now from)) ⌝ }
     ensures { λ r. ⌜ (r ≡ number bigEndian (part at n (now (from .entry)))) × (r < 256 ^ n) ⌝ }
 {
-    let mut r: u32 = 0;
+    let mut sum: u32 = 0;
     let mut i: usize = 0;
     while i < n {
-        r = r * 256 + octet(from, at + i);
+        sum = sum * 256 + octet(from, at + i);
         i += 1;
     }
-    r
+    sum
 }
 
 // The number in the n octets at a place, the lowest first, as in stored records.
@@ -34,13 +34,13 @@ pub fn read_little(from: &[u8], at: usize, n: usize) -> u32
     requires { ⌜ (n ≤ 4) × (at + n ≤ length (now from)) ⌝ }
     ensures { λ r. ⌜ (r ≡ number littleEndian (part at n (now (from .entry)))) × (r < 256 ^ n) ⌝ }
 {
-    let mut r: u32 = 0;
-    let mut i: usize = n;
-    while 0 < i {
-        i -= 1;
-        r = r * 256 + octet(from, at + i);
+    let mut sum: u32 = 0;
+    let mut left: usize = n;
+    while 0 < left {
+        left -= 1;
+        sum = sum * 256 + octet(from, at + left);
     }
-    r
+    sum
 }
 
 // Writes a value into the n octets at a place, the highest first; what does not fit in them is left out.
@@ -49,10 +49,10 @@ pub fn write_big(into: &mut [u8], at: usize, n: usize, value: u32)
     ensures { λ _. ⌜ now (into .exit) ≡ laid at (inOctets bigEndian n value) (now (into .entry)) ⌝ }
 {
     let mut rest = value;
-    let mut i: usize = n;
-    while 0 < i {
-        i -= 1;
-        into[at + i] = (rest & 255) as u8;
+    let mut left: usize = n;
+    while 0 < left {
+        left -= 1;
+        into[at + left] = (rest & 255) as u8;
         rest = rest >> 8;
     }
 }

@@ -12,7 +12,7 @@ use Rattle.whole.specs.Lists.{every, everyPair}
 use Rattle.whole.proofs.Lists.{pair-anywhere, every-anywhere, every-is}
 use Rattle.whole.proofs.Tests.{known}
 use Rattle.period.specs.declared.Period.{Period}
-use Rattle.period.specs.Periods.{ticksTable, holdTable, ticksOf, holdOf, periodOf, PeriodLaws}
+use Rattle.period.specs.Periods.{ticksTable, holdTable, ticksOf, holdOf, rowOf, periodOf, PeriodLaws}
 
 -- the rule at one row of the two tables
 ruled : ℕ → ℕ → Bool
@@ -44,11 +44,11 @@ pub some : (code : ℕ) → (1 ≤ ticksOf code) ↔ ((1 ≤ code) × (code ≤ 
 some code = (some-to code, λ h. some-from code (h .0) (h .1))
 
 -- any other code has no period
-pub none : (code : ℕ) → ((1 ≤ code) × (code ≤ 7) → ⊥) → record { ticks = 0; hold = 0 } ≡ periodOf code
+pub none : (code : ℕ) → ((1 ≤ code) × (code ≤ 7) → ⊥) → rowOf 0 0 ≡ periodOf code
 none code h =
     let ticks : 0 ≡ ticksOf code = ⊎-elim (λ t. absurd (h (some code .0 (leb-true 1 (ticksOf code) t)))) (λ f. omega (arith, leb-false 1 (ticksOf code) f)) (known (leb 1 (ticksOf code))) in
     let hold : 0 ≡ holdOf code = omega (arith, hold-rule code) in
-    ap₂ (λ (t h : ℕ). record { ticks = t; hold = h }) ticks hold
+    ap₂ rowOf ticks hold
 
 pub period-laws : PeriodLaws
 period-laws = record { hold-rule = hold-rule; some = some; ticks-most = ticks-most; hold-most = hold-most }

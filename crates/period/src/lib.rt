@@ -1,6 +1,6 @@
 // How often a CCM, AIS or LCK is sent, and how long one holds, in ticks of 1/600 s.
 ghost use mathlib.Core.Path.{_≡_};
-ghost use Rattle.period.specs.Periods.{ticksOf, holdOf, periodOf};
+ghost use Rattle.period.specs.Periods.{ticksOf, holdOf, rowOf, periodOf};
 
 // The ticks of period codes 0 to 7, as the paper prints them. Code 0 has no period.
 pub const TICKS: [u32; 8] = [
@@ -19,8 +19,8 @@ pub const HOLDS: [u32; 8] = [0, 7, 21, 210, 2_100, 21_000, 126_000, 1_260_000];
 
 // A period: its ticks and its hold time. No period is 0 ticks and hold time 0.
 pub struct Period {
-    ticks: u32,
-    hold: u32,
+    pub ticks: u32,
+    pub hold: u32,
 }
 
 impl Period {
@@ -40,58 +40,27 @@ impl Period {
 
     pub const MIN_10: u32 = 360_000;
 
+    // One row of the two tables.
+    fn row(ticks: u32, hold: u32) -> Self
+        ensures { λ r. ⌜ r ≡ rowOf ticks hold ⌝ }
+    {
+        Period { ticks, hold }
+    }
+
     // The period of a code; no period for 0 and for all above 7.
     pub fn from_code(code: u32) -> Self
         ensures { λ r. ⌜ r ≡ periodOf code ⌝ }
     {
         match code {
-            1 => Period {
-                ticks: TICKS[1],
-                hold: HOLDS[1],
-            },
-            2 => Period {
-                ticks: TICKS[2],
-                hold: HOLDS[2],
-            },
-            3 => Period {
-                ticks: TICKS[3],
-                hold: HOLDS[3],
-            },
-            4 => Period {
-                ticks: TICKS[4],
-                hold: HOLDS[4],
-            },
-            5 => Period {
-                ticks: TICKS[5],
-                hold: HOLDS[5],
-            },
-            6 => Period {
-                ticks: TICKS[6],
-                hold: HOLDS[6],
-            },
-            7 => Period {
-                ticks: TICKS[7],
-                hold: HOLDS[7],
-            },
-            _ => Period {
-                ticks: TICKS[0],
-                hold: HOLDS[0],
-            },
+            1 => Period::row(TICKS[1], HOLDS[1]),
+            2 => Period::row(TICKS[2], HOLDS[2]),
+            3 => Period::row(TICKS[3], HOLDS[3]),
+            4 => Period::row(TICKS[4], HOLDS[4]),
+            5 => Period::row(TICKS[5], HOLDS[5]),
+            6 => Period::row(TICKS[6], HOLDS[6]),
+            7 => Period::row(TICKS[7], HOLDS[7]),
+            _ => Period::row(TICKS[0], HOLDS[0]),
         }
-    }
-
-    // From one beat to the next.
-    pub fn ticks(self) -> u32
-        ensures { λ r. ⌜ r ≡ self .ticks ⌝ }
-    {
-        self.ticks
-    }
-
-    // How long a condition or a peer holds: 3.5 periods.
-    pub fn hold(self) -> u32
-        ensures { λ r. ⌜ r ≡ self .hold ⌝ }
-    {
-        self.hold
     }
 }
 
@@ -99,12 +68,12 @@ impl Period {
 pub fn ticks_of(code: u32) -> u32
     ensures { λ r. ⌜ r ≡ ticksOf code ⌝ }
 {
-    Period::from_code(code).ticks()
+    Period::from_code(code).ticks
 }
 
 // The hold time of a code, 0 where it has no period.
 pub fn hold_of(code: u32) -> u32
     ensures { λ r. ⌜ r ≡ holdOf code ⌝ }
 {
-    Period::from_code(code).hold()
+    Period::from_code(code).hold
 }

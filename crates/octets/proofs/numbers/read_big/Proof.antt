@@ -1,4 +1,4 @@
--- `octets::numbers::read_big` meets its contract. The loop's invariant: r is the number in the first i octets. The measure is what is left of n.
+-- `octets::numbers::read_big` meets its contract. The loop's invariant: the sum is the number in the first i octets. The measure is what is left of n.
 use native.Mathlib.Omega.{arith}
 use mathlib.Core.Path.{_≡_, ap, sym, _∙_}
 use Prim.Native.Nat.{ℕ, _+_, _*_, _^_, _-_, _≤_, _<_}
@@ -10,16 +10,16 @@ use Rattle.octets.proofs.numbers.read_big.Statement.{statement}
 use Rattle.octets.proofs.numbers.read_big.Tie as tie
 
 abbrev Inv-loop : tie.InvT-loop
-Inv-loop from at n r₀ i₀ r i = (i ≤ n) × ((r ≡ number bigEndian (part at i from)) × (r < 256 ^ i))
+Inv-loop from at n sum₀ i₀ sum i = (i ≤ n) × ((sum ≡ number bigEndian (part at i from)) × (sum < 256 ^ i))
 
 abbrev μ-loop : tie.MeasureT-loop
-μ-loop from at n r₀ i₀ r i = n - i
+μ-loop from at n sum₀ i₀ sum i = n - i
 
 loop-holds : tie.Need-loop-holds Inv-loop μ-loop
 loop-holds c = (omega arith, (big-none (c .before .args .at) (now (c .before .args .from)), omega arith))
 
-mul-r : tie.Need-mul-r Inv-loop μ-loop
-mul-r c = let l = c .before .loop in omega (arith, more-below (l .i) (l .r) 0 (l .inv .1 .1) (omega arith), most-below (l .i + 1) (omega arith))
+mul-sum : tie.Need-mul-sum Inv-loop μ-loop
+mul-sum c = let l = c .before .loop in omega (arith, more-below (l .i) (l .sum) 0 (l .inv .1 .1) (omega arith), most-below (l .i + 1) (omega arith))
 
 add-octet : tie.Need-add-octet Inv-loop μ-loop
 add-octet c = omega arith
@@ -27,8 +27,8 @@ add-octet c = omega arith
 octet-requires : tie.Need-octet-requires Inv-loop μ-loop
 octet-requires c κs = omega arith
 
-add-r : tie.Need-add-r Inv-loop μ-loop
-add-r c = let l = c .before .before .loop in omega (arith, more-below (l .i) (l .r) (c .octet .result) (l .inv .1 .1) (omega arith), most-below (l .i + 1) (omega arith))
+add-sum : tie.Need-add-sum Inv-loop μ-loop
+add-sum c = let l = c .before .before .loop in omega (arith, more-below (l .i) (l .sum) (c .octet .result) (l .inv .1 .1) (omega arith), most-below (l .i + 1) (omega arith))
 
 add-i : tie.Need-add-i Inv-loop μ-loop
 add-i c = omega arith
@@ -44,7 +44,7 @@ loop-again c = let l = c .before .before .loop in
         ap (λ (k : ℕ). k * 256 + c .octet .result) (l .inv .1 .0)
             ∙ ap (λ (k : ℕ). number bigEndian (part (a .at) (l .i) (now (a .from))) * 256 + k) (c .octet .ensures .0)
             ∙ sym (big-turn (a .at) (l .i) (now (a .from)) (omega arith)),
-        more-below (l .i) (l .r) (c .octet .result) (l .inv .1 .1) (omega arith),
+        more-below (l .i) (l .sum) (c .octet .result) (l .inv .1 .1) (omega arith),
       ),
     )
 
@@ -61,10 +61,10 @@ read-big-spec =
     Inv-loop
     μ-loop
     loop-holds
-    mul-r
+    mul-sum
     add-octet
     octet-requires
-    add-r
+    add-sum
     add-i
     loop-less
     loop-again

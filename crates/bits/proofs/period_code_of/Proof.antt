@@ -1,8 +1,8 @@
--- `octets::bits::period_code_of` meets its contract: a mask of 3 ones is a remainder by 2 ^ 3.
+-- `bits::period_code_of` meets its contract: a mask of 3 ones is a remainder by 2 ^ 3.
 use native.Mathlib.Omega.{arith}
 use lib.Bits.{and-mask}
-use Rattle.octets.proofs.bits.period_code_of.Statement.{statement}
-use Rattle.octets.proofs.bits.period_code_of.Tie as tie
+use Rattle.bits.proofs.period_code_of.Statement.{statement}
+use Rattle.bits.proofs.period_code_of.Tie as tie
 
 cast-result : tie.Need-cast-result
 cast-result c = rw (and-mask (c .args .flags) 3) (omega arith)

@@ -1,8 +1,8 @@
--- `octets::bits::version_of` meets its contract: a mask of 5 ones is a remainder by 2 ^ 5.
+-- `bits::version_of` meets its contract: a mask of 5 ones is a remainder by 2 ^ 5.
 use native.Mathlib.Omega.{arith}
 use lib.Bits.{and-mask}
-use Rattle.octets.proofs.bits.version_of.Statement.{statement}
-use Rattle.octets.proofs.bits.version_of.Tie as tie
+use Rattle.bits.proofs.version_of.Statement.{statement}
+use Rattle.bits.proofs.version_of.Tie as tie
 
 cast-result : tie.Need-cast-result
 cast-result c = rw (and-mask (c .args .first) 5) (omega arith)

@@ -1,8 +1,8 @@
--- `octets::bits::ccm_flags` meets its contract: `joined`, one bit shifted up by 7 and three bits below it.
+-- `bits::ccm_flags` meets its contract: `joined`, one bit shifted up by 7 and three bits below it.
 use native.Mathlib.Omega.{arith}
-use Rattle.octets.proofs.Fields.{joined}
-use Rattle.octets.proofs.bits.ccm_flags.Statement.{statement}
-use Rattle.octets.proofs.bits.ccm_flags.Tie as tie
+use Rattle.bits.proofs.Joined.{joined}
+use Rattle.bits.proofs.ccm_flags.Statement.{statement}
+use Rattle.bits.proofs.ccm_flags.Tie as tie
 
 cast-result : tie.Need-cast-result
 cast-result c = rw (joined 32 (c .args .rdi) 1 7 (c .args .code) 3 (omega arith) (omega arith)) (omega arith)

@@ -1,8 +1,8 @@
--- `octets::bits::first_octet` meets its contract: `joined`, three bits shifted up by 5 and five bits below them.
+-- `bits::first_octet` meets its contract: `joined`, three bits shifted up by 5 and five bits below them.
 use native.Mathlib.Omega.{arith}
-use Rattle.octets.proofs.Fields.{joined}
-use Rattle.octets.proofs.bits.first_octet.Statement.{statement}
-use Rattle.octets.proofs.bits.first_octet.Tie as tie
+use Rattle.bits.proofs.Joined.{joined}
+use Rattle.bits.proofs.first_octet.Statement.{statement}
+use Rattle.bits.proofs.first_octet.Tie as tie
 
 cast-result : tie.Need-cast-result
 cast-result c = rw (joined 32 (c .args .level) 3 5 (c .args .version) 5 (omega arith) (omega arith)) (omega arith)

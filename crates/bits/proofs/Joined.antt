@@ -1,6 +1,6 @@
 -- Two fields put together by shift and mask, once for any widths. Assumes nothing.
 use Prim.Native.Nat.{ℕ, _+_, _*_, _%_, _^_, _-_, _<_}
-use mathlib.Core.Path.{_≡_, ap, _∙_}
+use mathlib.Core.Path.{_≡_}
 use native.Mathlib.Nat.{mod-eq-of-lt}
 use lib.Bits.{bitAnd, bitOr, and-mask, or-shifted}
 

@@ -1,6 +1,6 @@
 -- One timer, and a run of what happens to it. The paper, "Frames, rule by rule", last paragraph: a tick lowers every timer above 0 by one;
 -- rules 3 and 5 set timers to a hold time. Definitions and statements only.
-use Prim.Native.Nat.{ℕ, zero, suc, _-_, _≤_, _<_}
+use Prim.Native.Nat.{ℕ, suc, _-_, _≤_, _<_}
 use mathlib.Core.Path.{_≡_}
 use mathlib.Core.List.{List, [], _∷_, _++_, map}
 use mathlib.Core.Logic.{_↔_}

@@ -2,12 +2,12 @@
 use Prim.Native.Nat.{ℕ, zero, suc, _+_, _*_, _/_, _%_, _^_, _-_, _≤_, _<_}
 use mathlib.Core.Path.{_≡_, refl, sym, ap, _∙_}
 use mathlib.Core.List.{List, [], _∷_, _++_, reverse, reverse-cons, reverse-append, reverse-reverse}
-use mathlib.Core.Logic.{_⊎_, inl, inr, ⊎-elim}
-use native.Mathlib.Nat.{add-zero, mod-one, pow-zero, pow-suc, pow-succ', mod-eq-of-lt, mod-lt, one-le-pow, div-div-eq-div-mul, div-one, pow-le-pow-right, div-lt-iff-lt-mul, mul-assoc, zero-add, suc-add}
+use mathlib.Core.Logic.{_⊎_}
+use native.Mathlib.Nat.{pow-zero, pow-suc, pow-succ', one-le-pow, div-div-eq-div-mul, div-one, div-lt-iff-lt-mul, mul-assoc, zero-add, suc-add}
 use native.Mathlib.Numerals.{add-one}
 use native.Mathlib.Omega.{arith}
 use lib.Arith.{mod-mul}
-use lib.ListN.{length, getD, length-append, length-reverse}
+use lib.ListN.{length, getD, length-reverse}
 use lib.IntN.{ℤ}
 use mir.Syntax.{w64}
 use mir.Val.{SFits, toZ, ofZ}

@@ -1,17 +1,15 @@
 -- The statements of specs/Periods.antt, each by one test that is computed over the whole table. Assumes nothing.
 use Prim.Native.Nat.{ℕ, zero, suc, _*_, _≤_}
 use mathlib.Core.Path.{_≡_, refl, ap₂}
-use mathlib.Core.Bool.{Bool, _&&_, true, false}
-use mathlib.Core.List.{List, []}
+use mathlib.Core.Bool.{Bool}
 use mathlib.Core.Logic.{_↔_, ⊎-elim}
 use native.Mathlib.Omega.{arith}
 use lib.Dec.{eqb, leb}
-use lib.ListN.{getD, drop, List·getD-eq-default}
+use lib.ListN.{drop, List·getD-eq-default}
 use borrow.Author.Tests.{eqb-true, leb-true, leb-false}
 use Rattle.whole.specs.Lists.{every, everyPair}
 use Rattle.whole.proofs.Lists.{pair-anywhere, every-anywhere, every-is}
 use Rattle.whole.proofs.Tests.{known}
-use Rattle.period.specs.declared.Period.{Period}
 use Rattle.period.specs.Periods.{ticksTable, holdTable, ticksOf, holdOf, rowOf, periodOf, PeriodLaws}
 
 -- the rule at one row of the two tables

@@ -1,17 +1,17 @@
 -- The statements of specs/Lists.antt, and the laws of parts that others cite. Assumes nothing.
-use Prim.Native.Nat.{ℕ, zero, suc, _+_, _-_, _≤_, _<_, zero-le, suc-le-suc}
+use Prim.Native.Nat.{ℕ, zero, suc, _+_, _-_, _≤_, _<_, zero-le}
 use mathlib.Core.Path.{_≡_, refl, sym, ap, _∙_}
-use mathlib.Core.List.{List, [], _∷_, _++_, append-assoc, append-nil}
-use mathlib.Core.Bool.{Bool, true, false, _&&_, not, cond, true≢false, false≢true}
+use mathlib.Core.List.{List, [], _∷_, _++_, append-assoc}
+use mathlib.Core.Bool.{Bool, true, false, not, false≢true}
 use mathlib.Core.Logic.{_↔_, _⊎_, inl, inr, ⊎-elim}
 use native.Mathlib.Omega.{arith}
 use native.Mathlib.Numerals.{add-one}
-use native.Mathlib.Nat.{add-zero, add-assoc}
+use native.Mathlib.Nat.{add-zero}
 use lib.Dec.{eqb}
-use lib.ListN.{length, getD, set, take, drop, length-append, length-drop, take-append-drop, List·getD-append, drop-of-length-le}
-use lib.Seq.{length-take-le, take-at, drop-at, take-add, drop-drop, take-take, take-all, drop-cons, getD-take, getD-drop, getD-append-add, drop-append-add, append-snoc, set-at, take-suc, ext-getD}
-use borrow.Author.Tests.{eq-eqb, ne-eqb, eqb-true, eqb-false, not-true, not-false}
-use Rattle.whole.specs.Lists.{part, laid, every, everyPair, same, absent, distinct, placeOf, onFirst, Parts, Means}
+use lib.ListN.{length, getD, set, take, drop, length-append, length-drop, take-append-drop, List·getD-append}
+use lib.Seq.{length-take-le, take-at, drop-at, take-add, drop-drop, take-all, drop-cons, getD-take, getD-drop, getD-append-add, drop-append-add, append-snoc, set-at, take-suc, ext-getD}
+use borrow.Author.Tests.{eq-eqb, ne-eqb, eqb-true, eqb-false, not-true}
+use Rattle.whole.specs.Lists.{part, laid, every, everyPair, same, absent, distinct, placeOf, Parts, Means}
 use Rattle.whole.proofs.Tests.{known, and-true}
 
 -- ── parts ──

@@ -1,10 +1,8 @@
 -- Whole numbers with a sign, of any size. The library's `subℕ a b` is a less b; this says how such differences add up and how large they
 -- grow. Definitions and statements only.
-use Prim.Native.Nat.{ℕ, suc, _+_, _<_, _≤_, _^_}
+use Prim.Native.Nat.{ℕ, suc, _+_, _≤_}
 use mathlib.Core.Path.{_≡_}
 use lib.IntN.{ℤ, pos, negsuc, subℕ, natAbs, _+ℤ_, _-ℤ_}
-use mir.Syntax.{w64}
-use mir.Val.{SFits, toZ, ofZ}
 
 -- a less b, by its sign: 0 or more, or below 0
 pub data Split (a b : ℕ) : ℤ → Type 0 where

@@ -1,7 +1,7 @@
 -- `octets::numbers::read_signed` meets its contract: eight octets are two halves of four, and the bits read back as they are.
 use mir.Val.{Fits, toZ, ofZ}
 use native.Mathlib.Omega.{arith}
-use mathlib.Core.Path.{_≡_, ap, ap₂, _∙_}
+use mathlib.Core.Path.{ap, ap₂, _∙_}
 use Prim.Native.Nat.{ℕ, _+_, _*_}
 use lib.IntN.{ℤ}
 use denote.Ref.{now}

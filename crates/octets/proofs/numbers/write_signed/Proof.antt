@@ -1,12 +1,11 @@
 -- `octets::numbers::write_signed` meets its contract: eight octets are two halves of four, each laid by `write_little`.
-use lib.IntN.{ℤ}
 use mir.Syntax.{w64}
 use mir.Val.{ofZ}
 use Rattle.whole.proofs.Stored.{back}
 use native.Mathlib.Omega.{arith}
 use mathlib.Core.Path.{_≡_, ap, _∙_}
 use mathlib.Core.List.{List}
-use Prim.Native.Nat.{ℕ, _+_, _/_, _%_}
+use Prim.Native.Nat.{ℕ, _+_, _/_}
 use borrow.Author.Needs.{needs}
 use denote.Ref.{now}
 use Rattle.whole.specs.Lists.{laid}

@@ -1,10 +1,10 @@
 -- `octets::runs::same_octets` meets its contract. The loop's invariant: what is left to compare decides. The measure is what is left.
 use native.Mathlib.Omega.{arith}
 use mathlib.Core.Path.{_≡_, refl, sym, _∙_}
-use Prim.Native.Nat.{ℕ, _+_, _-_, _≤_}
+use Prim.Native.Nat.{_-_, _≤_}
 use denote.Ref.{now}
 use lib.Dec.{eqb}
-use lib.ListN.{length, getD, drop}
+use lib.ListN.{length, drop}
 use borrow.Author.Tests.{eq-eqb, ne-eqb}
 use Rattle.whole.specs.Lists.{same}
 use Rattle.whole.proofs.Loops.{pair-next, pair-fails, pair-end, pair-lengths}

@@ -1,7 +1,7 @@
 -- The statements of specs/Tests.antt, and the two cases of a Bool. Assumes nothing.
-use mathlib.Core.Path.{_≡_, refl}
-use mathlib.Core.Bool.{Bool, true, false, _&&_, _||_, false≢true}
-use mathlib.Core.List.{List, [], _∷_, _++_}
+use mathlib.Core.Path.{_≡_, refl, ap, _∙_}
+use mathlib.Core.Bool.{Bool, true, false, cond, _&&_, _||_, false≢true}
+use mathlib.Core.List.{List, [], _∷_, _++_, map}
 use mathlib.Core.Logic.{_↔_, _⊎_, inl, inr, ⊎-elim}
 use Rattle.whole.specs.Tests.{choose, NoneHolds, Chains}
 
@@ -29,5 +29,16 @@ unfolding choose NoneHolds
 choose-none [] otherwise n = refl
 choose-none (rule ∷ rules) otherwise n = rw (n .0) (choose-none rules otherwise (n .1))
 
+pub choose-map : {A B : Type 0} (f : A → B) (rules : List (Bool × A)) (otherwise : A)
+    → f (choose rules otherwise) ≡ choose (map (λ rule. (rule .0, f (rule .1))) rules) (f otherwise)
+unfolding choose
+choose-map f [] otherwise = refl
+choose-map f (rule ∷ rules) otherwise =
+    either (rule .0) (rule .1) (choose rules otherwise) ∙ ap (λ x. cond (rule .0) (f (rule .1)) x) (choose-map f rules otherwise)
+  where
+    either : (b : Bool) (x y : _) → f (cond b x y) ≡ cond b (f x) (f y)
+    either true x y = refl
+    either false x y = refl
+
 pub chains : Chains
-chains = record { first = choose-first; none = choose-none; both = and-true; either = or-true }
+chains = record { first = choose-first; none = choose-none; mapped = choose-map; both = and-true; either = or-true }

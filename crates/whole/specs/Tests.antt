@@ -1,7 +1,7 @@
 -- A chain of rules, each a test and an outcome, in the order in which they are tried. Definitions and statements only.
 use mathlib.Core.Path.{_≡_}
 use mathlib.Core.Bool.{Bool, true, false, cond, _&&_, _||_}
-use mathlib.Core.List.{List, [], _∷_, _++_}
+use mathlib.Core.List.{List, [], _∷_, _++_, map}
 use mathlib.Core.Logic.{_↔_, _⊎_}
 
 -- the outcome of the first rule whose test holds, or `otherwise` where none does
@@ -21,5 +21,7 @@ pub record Chains : Type 1 where
       → choose (before ++ ((true, outcome) ∷ behind)) otherwise ≡ outcome
   -- where no rule holds, the last word decides
   pub none : {A : Type 0} (rules : List (Bool × A)) (otherwise : A) → NoneHolds rules → choose rules otherwise ≡ otherwise
+  -- what is said of the outcome may be said of each rule
+  pub mapped : {A B : Type 0} (f : A → B) (rules : List (Bool × A)) (otherwise : A) → f (choose rules otherwise) ≡ choose (map (λ rule. (rule .0, f (rule .1))) rules) (f otherwise)
   pub both : (a b : Bool) → ((a && b) ≡ true) ↔ ((a ≡ true) × (b ≡ true))
   pub either : (a b : Bool) → ((a || b) ≡ true) ↔ ((a ≡ true) ⊎ (b ≡ true))

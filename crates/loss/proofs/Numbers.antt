@@ -1,8 +1,5 @@
 -- The statements of specs/Told.antt, and that the numbers of an answer are those that the paper gives. Assumes nothing.
-use Prim.Native.Nat.{ℕ}
-use mathlib.Core.Path.{_≡_, refl, ap, _∙_}
-use native.Mathlib.Omega.{arith}
-use borrow.Author.Tests.{eq-eqb, ne-eqb}
+use mathlib.Core.Path.{_≡_, refl}
 use lib.IntN.{pos}
 use mathlib.Core.Bool.{not}
 use mathlib.Core.List.{[], _∷_}

@@ -5,7 +5,7 @@ ghost use lib.IntN.{natAbs, subℕ, _+ℤ_};
 ghost use mir.Syntax.{w64};
 ghost use mir.Val.{SFits};
 ghost use Rattle.loss.specs.Growth.{growth, lossBetween};
-ghost use Rattle.loss.specs.Session.{clearedSession, allZero, wellFormed, WellFormed, firstOf, measuredOf, afterReading};
+ghost use Rattle.loss.specs.Session.{clearedSession, allZero, wellFormed, WellFormed, measuredOf, afterReading};
 ghost use Rattle.loss.specs.Told.{told, numbersOf};
 
 // The three counts of a loss reply and our own received count, as the paper names them:

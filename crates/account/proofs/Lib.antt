@@ -1,0 +1,4 @@
+pub mod Meets
+pub mod Both
+pub mod Tight
+pub mod Refuted

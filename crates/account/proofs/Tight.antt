@@ -1,0 +1,61 @@
+-- Any readings are the readings of some true counts, so demand 3 leaves no choice. Assumes nothing.
+use Prim.Native.Nat.{ℕ, _+_, _-_, _%_, _^_, _≤_, _<_}
+use mathlib.Core.Path.{_≡_, sym, ap₂, _∙_}
+use mathlib.Core.List.{List, [], _∷_}
+use native.Mathlib.Omega.{arith}
+use lib.ListN.{length}
+use Rattle.loss.specs.declared.Readings.{Readings}
+use Rattle.loss.specs.Session.{Side, near, far, sentOf, receivedOf, clearedSession}
+use Rattle.account.specs.Account.{Truth, Grows, GoesOn, Sound}
+use Rattle.account.specs.Demand3.{Step, answers, Shows, Agrees, Demand3, Small, Tight}
+use Rattle.account.proofs.Both.{pairs, pairs-seen}
+
+-- the least true count from a on that is read as b
+abbrev onTo : ℕ → ℕ → ℕ
+onTo a b = a + (b + (4294967296 - a % 4294967296)) % 4294967296
+
+onTo-read : (a b : ℕ) → b < 2 ^ 32 → b ≡ onTo a b % 2 ^ 32
+onTo-read a b h = omega arith
+
+onTo-grows : (a b : ℕ) → Grows a (onTo a b)
+onTo-grows a b = record { rises = omega arith; small = omega arith }
+
+-- true counts that the readings show, built up from t
+abbrev next : Side → Truth → Readings → Truth
+next d t r = record { sent = onTo (t .sent) (sentOf d r); received = onTo (t .received) (receivedOf d r) }
+
+unfoldable build : Side → Truth → List Readings → List Truth
+build d t [] = []
+build d t (r ∷ rs) = next d t r ∷ build d (next d t r) rs
+
+build-shows : (d : Side) (t : Truth) (rs : List Readings) → Small rs → Shows d rs (build d t rs)
+unfolding build
+build-shows d t [] h = tt
+build-shows d t (r ∷ rs) h =
+    (onTo-read (t .sent) (sentOf d r) (h .0 d .0), onTo-read (t .received) (receivedOf d r) (h .0 d .1), build-shows d (next d t r) rs (h .1))
+
+build-goes : (d : Side) (t : Truth) (rs : List Readings) → GoesOn t (build d t rs)
+unfolding build
+build-goes d t [] = tt
+build-goes d t (r ∷ rs) = (onTo-grows (t .sent) (sentOf d r), onTo-grows (t .received) (receivedOf d r), build-goes d (next d t r) rs)
+
+abbrev origin : Truth
+origin = record { sent = 0; received = 0 }
+
+sound : (d : Side) (rs : List Readings) → Sound (build d origin rs)
+unfolding build
+sound d [] = tt
+sound d (r ∷ rs) = build-goes d (next d origin r) rs
+
+agrees : (f : Step) → Demand3 f → (rs : List Readings) → length rs ≤ 1000000001 → Small rs → (d : Side) → Agrees f d rs (build d origin rs)
+agrees f m rs few small d = m .side d rs (build d origin rs) few (build-shows d origin rs small) (sound d rs)
+
+pub tight : Tight
+tight f g m k rs few small =
+    let a = agrees f m rs few small in
+    let b = agrees g k rs few small in
+    record {
+      results = sym (pairs-seen (answers f clearedSession rs)) ∙ ap₂ pairs (a near .results ∙ sym (b near .results)) (a far .results ∙ sym (b far .results)) ∙ pairs-seen (answers g clearedSession rs);
+      totals = λ d. a d .totals ∙ sym (b d .totals);
+      intervals = m .intervals rs few ∙ sym (k .intervals rs few);
+    }

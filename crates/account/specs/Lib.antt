@@ -1,0 +1,3 @@
+pub mod Account
+pub mod Demand3
+pub mod Wrong

@@ -1,0 +1,3 @@
+pub mod Stamps
+pub mod Delays
+pub mod Told

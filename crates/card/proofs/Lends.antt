@@ -1,6 +1,6 @@
 -- The statements of specs/Lent.antt. Assumes nothing.
 use mathlib.Core.Path.{_≡_, refl, sym, ap, ap₂, _∙_}
-use mathlib.Core.List.{List, [], _∷_, map}
+use mathlib.Core.List.{List, _∷_, map}
 use Rattle.clock.specs.Run.{after}
 use Rattle.loss.specs.declared.Readings.{Readings}
 use Rattle.loss.specs.declared.LossSession.{LossSession}

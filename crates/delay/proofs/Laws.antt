@@ -1,11 +1,10 @@
 -- The statements of specs/Delays.antt, and the cases of a reply as laws that others cite. Assumes nothing.
-use Prim.Native.Nat.{ℕ, zero, suc, _+_, _*_, _^_, _≤_, _<_}
+use Prim.Native.Nat.{ℕ, zero, suc, _^_, _≤_, _<_}
 use mathlib.Core.Path.{_≡_, refl, sym, ap, _∙_}
 use mathlib.Core.Bool.{Bool, true, false, cond}
 use mathlib.Core.Logic.{⊎-elim}
 use native.Mathlib.Omega.{arith}
 use lib.IntN.{ℤ, pos, negsuc, natAbs, negℤ, _-ℤ_}
-use lib.Signed.{mag}
 use borrow.Author.Tests.{lt-ltb}
 use Rattle.whole.specs.Tests.{choose}
 use Rattle.whole.specs.Lists.{every}

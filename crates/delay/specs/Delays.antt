@@ -1,6 +1,6 @@
 -- The delays of a reply. The paper, rule 8: two-way is receive stamp less TxTimeStampf; where the responder's pair is given, less its own
 -- time, and each way by itself. D7 and D8 of rule 4 and of "Refusals". Definitions and statements only.
-use Prim.Native.Nat.{ℕ, _^_}
+use Prim.Native.Nat.{_^_}
 use mathlib.Core.Path.{_≡_}
 use mathlib.Core.Bool.{Bool, true, false, cond, not}
 use mathlib.Core.List.{List, [], _∷_}

@@ -147,14 +147,14 @@ fn measured(s: LossSession, r: Readings) -> Updated
     let e = s.last;
     let near = loss_between(e.txb, r.txb, e.ours, r.ours);
     let far = loss_between(e.txf, r.txf, e.rxf, r.rxf);
-    let mut next = s;
-    next.last = r;
-    next.near = plus(s.near, near);
-    next.far = plus(s.far, far);
-    next.intervals = s.intervals + 1;
+    let mut after = s;
+    after.last = r;
+    after.near = plus(s.near, near);
+    after.far = plus(s.far, far);
+    after.intervals = s.intervals + 1;
     Updated {
         answer: LossAnswer::Measured { near, far },
-        session: next,
+        session: after,
     }
 }
 

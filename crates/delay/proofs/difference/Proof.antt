@@ -1,6 +1,6 @@
 -- `delay::difference` meets its contract: two widened stamps, subtracted with their sign.
 use native.Mathlib.Omega.{arith}
-use mathlib.Core.Path.{_≡_, ap₂, _∙_}
+use mathlib.Core.Path.{ap₂, _∙_}
 use lib.IntN.{subℕ}
 use mir.Facts.{toZ-ofZ}
 use borrow.Author.Needs.{needs}

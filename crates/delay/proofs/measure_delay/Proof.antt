@@ -1,8 +1,7 @@
 -- `delay::measure_delay` meets its contract: the tests that led to a return pick the case, the sizes of the differences rule D8 out, and a
 -- signed number that was stored and read again is what it was.
 use mathlib.Core.Path.{_≡_, sym, ap, ap₂, _∙_}
-use mathlib.Core.Bool.{true, false}
-use native.Mathlib.Omega.{arith}
+use mathlib.Core.Bool.{true}
 use Prim.Native.Nat.{_≤_}
 use lib.IntN.{ℤ, natAbs, _-ℤ_}
 use mir.Syntax.{w64}
@@ -13,7 +12,7 @@ use Rattle.whole.proofs.Stored.{back, fits-size}
 use Rattle.delay.specs.declared.Stamp.{Stamp}
 use Rattle.delay.specs.declared.DelayAnswer.{DelayAnswer}
 use Rattle.delay.specs.declared.DelayAnswer.the-variants.{TwoWay, AllWays}
-use Rattle.delay.specs.Stamps.{between, paired, usable}
+use Rattle.delay.specs.Stamps.{usable}
 use Rattle.delay.specs.Delays.{delaysOf}
 use Rattle.delay.specs.Told.{told, numbersOf}
 use Rattle.delay.proofs.Laws.{furthest, less-size, delays-bad, delays-two, delays-all}

@@ -36,8 +36,8 @@ plus-requires-2 c κs = let d = c .before .before .before in
     let o = d .before .before .before in
     plus-fits (o .args .s .far) (d .loss-between2 .result) (o .args .s .intervals) (far-fits o) (far-loss-fits d) (o .pre .1) (o .pre .0 .total far) (d .loss-between2 .ensures .1)
 
-add-next : tie.Need-add-next
-add-next c = search needs
+add-after : tie.Need-add-after
+add-after c = search needs
 
 returns : tie.Need-returns
 returns c = let p = c .before .before .before in
@@ -62,5 +62,5 @@ measured-spec =
     loss-between-requires-2
     plus-requires
     plus-requires-2
-    add-next
+    add-after
     returns)

@@ -9,7 +9,7 @@ use Rattle.bits.proofs.ccm_flags.Reads as ccm-flags
 use Rattle.bits.proofs.mep_id_of.Reads as mep-id-of
 
 pub level-of-one : (κs : _) (a : _) (r r′ : _) (s s′ : _) → level-of.Post κs a r s → level-of.Post κs a r′ s′ → r ≡ r′
-level-of-one κs a r r′ s s′ p q = p ∙ sym q
+level-of-one κs a r r′ s s′ p q = p .0 ∙ sym (q .0)
 
 pub version-of-one : (κs : _) (a : _) (r r′ : _) (s s′ : _) → version-of.Post κs a r s → version-of.Post κs a r′ s′ → r ≡ r′
 version-of-one κs a r r′ s s′ p q = p ∙ sym q
@@ -21,7 +21,7 @@ pub period-code-of-one : (κs : _) (a : _) (r r′ : _) (s s′ : _) → period-
 period-code-of-one κs a r r′ s s′ p q = p ∙ sym q
 
 pub rdi-of-one : (κs : _) (a : _) (r r′ : _) (s s′ : _) → rdi-of.Post κs a r s → rdi-of.Post κs a r′ s′ → r ≡ r′
-rdi-of-one κs a r r′ s s′ p q = p ∙ sym q
+rdi-of-one κs a r r′ s s′ p q = p .0 ∙ sym (q .0)
 
 pub ccm-flags-one : (κs : _) (a : _) (r r′ : _) (s s′ : _) → ccm-flags.Post κs a r s → ccm-flags.Post κs a r′ s′ → r ≡ r′
 ccm-flags-one κs a r r′ s s′ p q = p ∙ sym q

@@ -1,10 +1,10 @@
 // The bit fields of a PDU by shift and mask: what is promised is said in `/` and `%`.
 ghost use mathlib.Core.Path.{_≡_};
-ghost use Prim.Native.Nat.{_+_, _*_, _/_, _%_};
+ghost use Prim.Native.Nat.{_+_, _*_, _/_, _%_, _<_};
 
 // The level: the top three bits of a PDU's first octet.
 pub fn level_of(first: u8) -> u32
-    ensures { λ r. ⌜ r ≡ first / 32 ⌝ }
+    ensures { λ r. ⌜ (r ≡ first / 32) × (r < 8) ⌝ }
 {
     (first >> 5) as u32
 }
@@ -32,7 +32,7 @@ pub fn period_code_of(flags: u8) -> u32
 
 // RDI, 0 or 1: bit 8 of the flags, the highest.
 pub fn rdi_of(flags: u8) -> u32
-    ensures { λ r. ⌜ r ≡ flags / 128 ⌝ }
+    ensures { λ r. ⌜ (r ≡ flags / 128) × (r < 2) ⌝ }
 {
     (flags >> 7) as u32
 }

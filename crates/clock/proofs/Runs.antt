@@ -3,6 +3,14 @@ use mathlib.Core.Path.{_≡_, refl, ap, _∙_}
 use mathlib.Core.List.{List, [], _∷_, _++_, map}
 use Rattle.clock.specs.Run.{after, AllGood, Runs}
 
+after-none : {S C : Type 0} (step : S → C → S) (s : S) → after step s [] ≡ s
+unfolding after
+after-none step s = refl
+
+after-one : {S C : Type 0} (step : S → C → S) (s : S) (c : C) → after step s (c ∷ []) ≡ step s c
+unfolding after
+after-one step s c = refl
+
 pub after-append : {S C : Type 0} (step : S → C → S) (s : S) (cs ds : List C) → after step s (cs ++ ds) ≡ after step (after step s cs) ds
 unfolding after
 after-append step s [] ds = refl
@@ -20,4 +28,4 @@ module _ {S C E F : Type 0} (step : S → C → S) (move : F → E → F) (field
       (rest .0 ∙ ap (λ (x : F). after move x (map event cs)) (moves s c h (g .0)), rest .1)
 
 pub runs : Runs
-runs = record { joins = after-append; watched = watched }
+runs = record { none = after-none; one = after-one; joins = after-append; watched = watched }

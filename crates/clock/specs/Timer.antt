@@ -4,18 +4,19 @@ use Prim.Native.Nat.{ℕ, suc, _-_, _≤_, _<_}
 use mathlib.Core.Path.{_≡_}
 use mathlib.Core.List.{List, [], _∷_, _++_, map}
 use mathlib.Core.Logic.{_↔_}
+use lib.ListN.{replicate}
 use Rattle.clock.specs.Run.{after}
 
 -- what a call is to a timer: a tick, something that sets it to a hold time, or anything else
 pub data Event : Type 0 where
   tick : Event
-  set : ℕ → Event
+  setTo : ℕ → Event
   other : Event
 
 -- a tick lowers a timer that is above 0 (0 - 1 is 0); a set timer is set again, also to less than is left
 abbrev pub moved : ℕ → Event → ℕ
 moved t tick = t - 1
-moved t (set h) = h
+moved t (setTo h) = h
 moved t other = t
 
 -- the timer after a run, t before it
@@ -26,29 +27,32 @@ timerAfter = after moved
 unfoldable pub ticks : List Event → ℕ
 ticks [] = 0
 ticks (tick ∷ es) = suc (ticks es)
-ticks (set h ∷ es) = ticks es
+ticks (setTo h ∷ es) = ticks es
 ticks (other ∷ es) = ticks es
 
 -- nothing in the run sets the timer
 unfoldable pub NoSet : List Event → Type 0
 NoSet [] = Unit {0}
 NoSet (tick ∷ es) = NoSet es
-NoSet (set h ∷ es) = ⊥
+NoSet (setTo h ∷ es) = ⊥
 NoSet (other ∷ es) = NoSet es
 
 -- a run of calls never sets the timer, or has a last call that does; `event` says what each call is to the timer
 pub data LastSet {C : Type 0} (event : C → Event) : List C → Type 0 where
   never : (cs : List C) → NoSet (map event cs) → LastSet event cs
-  last : (before : List C) (c : C) (h : ℕ) (since : List C) → event c ≡ set h → NoSet (map event since) → LastSet event (before ++ (c ∷ since))
+  last : (before : List C) (c : C) (h : ℕ) (since : List C) → event c ≡ setTo h → NoSet (map event since) → LastSet event (before ++ (c ∷ since))
 
 -- what is said of any timer, whatever it held before
 pub record Times : Type 1 where
-  -- it runs exactly while fewer than h ticks have passed since it was last set, to h
-  pub runs : (t : ℕ) (before : List Event) (h : ℕ) (since : List Event) → NoSet since
-      → (0 < timerAfter t (before ++ (set h ∷ since))) ↔ (ticks since < h)
+  -- n ticks lower it by n, down to 0; a call that is neither tick nor set leaves it
+  pub lowered : (n t : ℕ) → timerAfter t (replicate n tick) ≡ t - n
+  pub kept : (t : ℕ) → timerAfter t (other ∷ []) ≡ t
+  -- in any run of calls: it runs exactly while fewer than h ticks have passed since it was last set, to h
+  pub runs : {C : Type 0} (event : C → Event) (t : ℕ) (before : List C) (c : C) (h : ℕ) (since : List C) → event c ≡ setTo h → NoSet (map event since)
+      → (0 < timerAfter t (map event (before ++ (c ∷ since)))) ↔ (ticks (map event since) < h)
   -- it is 0 exactly when h ticks or more have passed since then
-  pub ends : (t : ℕ) (before : List Event) (h : ℕ) (since : List Event) → NoSet since
-      → (timerAfter t (before ++ (set h ∷ since)) ≡ 0) ↔ (h ≤ ticks since)
+  pub ends : {C : Type 0} (event : C → Event) (t : ℕ) (before : List C) (c : C) (h : ℕ) (since : List C) → event c ≡ setTo h → NoSet (map event since)
+      → (timerAfter t (map event (before ++ (c ∷ since))) ≡ 0) ↔ (h ≤ ticks (map event since))
   -- started at h and never set: 0 exactly when h ticks or more have passed since the start
   pub started : (h : ℕ) (since : List Event) → NoSet since → (timerAfter h since ≡ 0) ↔ (h ≤ ticks since)
   -- started at 0 and never set: 0

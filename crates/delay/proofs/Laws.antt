@@ -9,7 +9,7 @@ use borrow.Author.Tests.{lt-ltb}
 use Rattle.whole.specs.Tests.{choose}
 use Rattle.whole.specs.Lists.{every}
 use Rattle.whole.proofs.Tests.{known}
-use Rattle.whole.proofs.Signed.{sub-size, add-size}
+use Rattle.whole.proofs.Signed.{sub-size, less-size}
 use Rattle.delay.specs.declared.Stamp.{Stamp}
 use Rattle.delay.specs.declared.DelayAnswer.{DelayAnswer}
 use Rattle.delay.specs.declared.DelayAnswer.the-variants.{BadStamp, TooLarge, TwoWay, AllWays}
@@ -28,13 +28,8 @@ between-size a b wa wb =
     let hb : instant b ≤ furthest = omega (arith, wb .seconds, wb .nanoseconds) in
     sub-size (instant b) (instant a) furthest hb ha
 
-size-neg : (z : ℤ) → natAbs (negℤ z) ≤ natAbs z
-size-neg (pos zero) = omega arith
-size-neg (pos (suc n)) = omega arith
-size-neg (negsuc n) = omega arith
-
-pub less-size : (x y : ℤ) → natAbs x ≤ furthest → natAbs y ≤ furthest → natAbs (x -ℤ y) < 2 ^ 63
-less-size x y hx hy = omega (arith, add-size x (negℤ y), size-neg y)
+pub stay-size : (x y : ℤ) → natAbs x ≤ furthest → natAbs y ≤ furthest → natAbs (x -ℤ y) < 2 ^ 63
+stay-size x y hx hy = omega (arith, less-size x y)
 
 held-size : (z : ℤ) → natAbs z < 2 ^ 63 → held z ≡ true
 held-size (pos n) h = lt-ltb n (2 ^ 63) h
@@ -59,7 +54,7 @@ module _ (txf rxf txb here : Stamp) where
         rw (
           u,
           p,
-          held-size (without-stay txf rxf txb here) (less-size (between txf here) (between rxf txb) all stay),
+          held-size (without-stay txf rxf txb here) (stay-size (between txf here) (between rxf txb) all stay),
           held-size (between txf rxf) (omega arith),
           held-size (between txb here) (omega arith),
         )

@@ -22,7 +22,7 @@ pub loss-size : (a b c d : ℕ) → natAbs (lossBetween a b c d) ≤ 4294967295
 loss-size a b c d = sub-size (growth (2 ^ 32) a b) (growth (2 ^ 32) c d) 4294967295 (omega arith) (omega arith)
 
 pub growths : Growths
-growths = record { true-growth = true-growth; bounded = loss-size }
+growths = record { true-growth = true-growth; bounded = λ a b c d. omega (arith, loss-size a b c d) }
 
 -- a total within its bound, and one more loss
 pub plus-fits : (x y : ℤ) (n : ℕ) → SFits w64 x → SFits w64 y → n < 1000000000 → natAbs x ≤ n * 4294967295 → natAbs y ≤ 4294967295

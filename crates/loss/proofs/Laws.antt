@@ -8,7 +8,7 @@ use lib.Dec.{leb, eqb}
 use lib.IntN.{ℤ, natAbs, _+ℤ_}
 use borrow.Author.Tests.{leb-true, le-leb, eqb-true, eqb-false, eq-eqb, ne-eqb}
 use Rattle.whole.specs.Tests.{choose}
-use Rattle.whole.proofs.Tests.{known, and-true, or-true}
+use Rattle.whole.proofs.Tests.{known, both-true, either-true}
 use Rattle.whole.proofs.Signed.{add-size}
 use Rattle.loss.specs.declared.Readings.{Readings}
 use Rattle.loss.specs.declared.LossSession.{LossSession}
@@ -28,27 +28,27 @@ zero-readings r = (to, λ e. ap allZero e)
   where
     to : allZero r ≡ true → r ≡ noReadings
     to h =
-        let a = and-true (eqb (r .txf) 0 && eqb (r .rxf) 0 && eqb (r .txb) 0) (eqb (r .ours) 0) .0 h in
-        let b = and-true (eqb (r .txf) 0 && eqb (r .rxf) 0) (eqb (r .txb) 0) .0 (a .0) in
-        let c = and-true (eqb (r .txf) 0) (eqb (r .rxf) 0) .0 (b .0) in
+        let a = both-true (eqb (r .txf) 0 && eqb (r .rxf) 0 && eqb (r .txb) 0) (eqb (r .ours) 0) .0 h in
+        let b = both-true (eqb (r .txf) 0 && eqb (r .rxf) 0) (eqb (r .txb) 0) .0 (a .0) in
+        let c = both-true (eqb (r .txf) 0) (eqb (r .rxf) 0) .0 (b .0) in
         four-zeros (r .txf) (r .rxf) (r .txb) (r .ours) (eqb-true _ _ (c .0)) (eqb-true _ _ (c .1)) (eqb-true _ _ (b .1)) (eqb-true _ _ (a .1))
 
 module _ (s : LossSession) where
   well-to : wellFormed s ≡ true → WellFormed s
   unfolding wellFormed
   well-to h =
-      let a = and-true _ (leb (natAbs (s .far)) (s .intervals * 4294967295)) .0 h in
-      let b = and-true _ (leb (natAbs (s .near)) (s .intervals * 4294967295)) .0 (a .0) in
-      let c = and-true _ (eqb (s .kept) 1 || eqb (s .intervals) 0 && allZero (s .last)) .0 (b .0) in
-      let d = and-true (leb (s .kept) 1) (leb (s .intervals) 1000000000) .0 (c .0) in
+      let a = both-true _ (leb (natAbs (s .far)) (s .intervals * 4294967295)) .0 h in
+      let b = both-true _ (leb (natAbs (s .near)) (s .intervals * 4294967295)) .0 (a .0) in
+      let c = both-true _ (eqb (s .kept) 1 || eqb (s .intervals) 0 && allZero (s .last)) .0 (b .0) in
+      let d = both-true (leb (s .kept) 1) (leb (s .intervals) 1000000000) .0 (c .0) in
       record { flag = leb-true _ _ (d .0); few = leb-true _ _ (d .1); nothing = none (c .1); total = bound (b .1) (a .1) }
     where
       none : (eqb (s .kept) 1 || eqb (s .intervals) 0 && allZero (s .last)) ≡ true → s .kept ≡ 0 → (s .intervals ≡ 0) × (s .last ≡ noReadings)
       none h e =
           ⊎-elim
           (λ k. absurd (omega (arith, eqb-true (s .kept) 1 k)))
-          (λ k. let p = and-true (eqb (s .intervals) 0) (allZero (s .last)) .0 k in (eqb-true _ _ (p .0), zero-readings (s .last) .0 (p .1)))
-          (or-true (eqb (s .kept) 1) (eqb (s .intervals) 0 && allZero (s .last)) .0 h)
+          (λ k. let p = both-true (eqb (s .intervals) 0) (allZero (s .last)) .0 k in (eqb-true _ _ (p .0), zero-readings (s .last) .0 (p .1)))
+          (either-true (eqb (s .kept) 1) (eqb (s .intervals) 0 && allZero (s .last)) .0 h)
 
       bound : leb (natAbs (s .near)) (s .intervals * 4294967295) ≡ true → leb (natAbs (s .far)) (s .intervals * 4294967295) ≡ true
           → (d : Side) → natAbs (totalOf d s) ≤ s .intervals * 4294967295
@@ -69,10 +69,10 @@ module _ (s : LossSession) where
       held : (eqb (s .kept) 1 || eqb (s .intervals) 0 && allZero (s .last)) ≡ true
       held =
           ⊎-elim
-          (λ (t : eqb (s .kept) 1 ≡ true). or-true _ (eqb (s .intervals) 0 && allZero (s .last)) .1 (inl t))
+          (λ (t : eqb (s .kept) 1 ≡ true). either-true _ (eqb (s .intervals) 0 && allZero (s .last)) .1 (inl t))
           (λ (f : eqb (s .kept) 1 ≡ false).
           let n = w .nothing (omega (arith, eqb-false (s .kept) 1 f, w .flag)) in
-          or-true (eqb (s .kept) 1) _ .1 (inr (and-true _ _ .1 (eq-eqb (s .intervals) 0 (n .0), zero-readings (s .last) .1 (n .1)))))
+          either-true (eqb (s .kept) 1) _ .1 (inr (both-true _ _ .1 (eq-eqb (s .intervals) 0 (n .0), zero-readings (s .last) .1 (n .1)))))
           (known (eqb (s .kept) 1))
 
   pub well : (wellFormed s ≡ true) ↔ WellFormed s

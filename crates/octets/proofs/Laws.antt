@@ -7,24 +7,25 @@ use native.Mathlib.Nat.{pow-zero, pow-suc, pow-succ', one-le-pow, div-div-eq-div
 use native.Mathlib.Numerals.{add-one}
 use native.Mathlib.Omega.{arith}
 use lib.Arith.{mod-mul}
-use lib.ListN.{length, getD, length-reverse}
-use lib.IntN.{ℤ}
+use lib.ListN.{length, getD, take, drop, replicate, length-reverse}
+use lib.Seq.{getD-drop}
+use lib.IntN.{ℤ, negsuc}
 use mir.Syntax.{w64}
-use mir.Val.{SFits, toZ, ofZ}
-use mir.Facts.{toZ-ofZ, fits-ofZ, fits-lt-pow}
+use mir.Val.{Fits, SFits, toZ, ofZ}
+use mir.Facts.{toZ-ofZ, ofZ-toZ, fits-ofZ, fits-lt-pow}
 use Rattle.whole.specs.Lists.{part, laid}
-use Rattle.whole.proofs.Lists.{part-here, part-append, length-part, laid-back, laid-others, laid-append}
-use Rattle.octets.specs.Numbers.{Order, littleEndian, bigEndian, lowestFirst, spelled, number, inOctets, Octets, Numbers}
+use Rattle.whole.proofs.Lists.{part-here, part-append, length-part, laid-back, laid-others, laid-next}
+use Rattle.octets.specs.Numbers.{Order, littleEndian, bigEndian, numberLowestFirst, octetsLowestFirst, number, inOctets, Octets, Numbers}
 
 -- ── the lowest first ──
 
-spelled-size : (n v : ℕ) → length (spelled n v) ≡ n
-unfolding spelled
+spelled-size : (n v : ℕ) → length (octetsLowestFirst n v) ≡ n
+unfolding octetsLowestFirst
 spelled-size zero v = refl
 spelled-size (suc n) v = ap suc (spelled-size n (v / 256))
 
-spelled-octets : (n v : ℕ) → Octets (spelled n v)
-unfolding spelled
+spelled-octets : (n v : ℕ) → Octets (octetsLowestFirst n v)
+unfolding octetsLowestFirst
 spelled-octets zero v i = omega arith
 spelled-octets (suc n) v zero = omega arith
 spelled-octets (suc n) v (suc i) = spelled-octets n (v / 256) i
@@ -32,24 +33,24 @@ spelled-octets (suc n) v (suc i) = spelled-octets n (v / 256) i
 tail-octets : (x : ℕ) (xs : List ℕ) → Octets (x ∷ xs) → Octets xs
 tail-octets x xs h i = h (suc i)
 
-lowest-below : (xs : List ℕ) → Octets xs → lowestFirst xs < 256 ^ length xs
-unfolding lowestFirst
+lowest-below : (xs : List ℕ) → Octets xs → numberLowestFirst xs < 256 ^ length xs
+unfolding numberLowestFirst
 lowest-below [] h = rw (pow-zero 256) (omega arith)
 lowest-below (x ∷ xs) h = rw (pow-succ' 256 (length xs)) (omega (arith, h 0, lowest-below xs (tail-octets x xs h)))
 
-lowest-back : (n v : ℕ) → v < 256 ^ n → lowestFirst (spelled n v) ≡ v
-unfolding lowestFirst spelled
+lowest-back : (n v : ℕ) → v < 256 ^ n → numberLowestFirst (octetsLowestFirst n v) ≡ v
+unfolding numberLowestFirst octetsLowestFirst
 lowest-back zero v h = omega (arith, pow-zero 256)
 lowest-back (suc n) v h =
     let small : v / 256 < 256 ^ n = div-lt-iff-lt-mul {k = 256} {x = v} {y = 256 ^ n} (omega arith) .1 (rw (pow-suc 256 n) at h) in
     rw (lowest-back n (v / 256) small) (omega arith)
 
-lowest-again : (xs : List ℕ) → Octets xs → spelled (length xs) (lowestFirst xs) ≡ xs
-unfolding lowestFirst spelled
+lowest-again : (xs : List ℕ) → Octets xs → octetsLowestFirst (length xs) (numberLowestFirst xs) ≡ xs
+unfolding numberLowestFirst octetsLowestFirst
 lowest-again [] h = refl
 lowest-again (x ∷ xs) h =
-    let m : (x + 256 * lowestFirst xs) % 256 ≡ x = omega (arith, h 0) in
-    let d : (x + 256 * lowestFirst xs) / 256 ≡ lowestFirst xs = omega (arith, h 0) in
+    let m : (x + 256 * numberLowestFirst xs) % 256 ≡ x = omega (arith, h 0) in
+    let d : (x + 256 * numberLowestFirst xs) / 256 ≡ numberLowestFirst xs = omega (arith, h 0) in
     rw (m, d, lowest-again xs (tail-octets x xs h))
 
 -- ── both orders ──
@@ -71,12 +72,12 @@ reverse-octets (x ∷ xs) h i =
 pub length-octets : (o : Order) (n v : ℕ) → length (inOctets o n v) ≡ n
 unfolding inOctets
 length-octets littleEndian n v = spelled-size n v
-length-octets bigEndian n v = length-reverse (spelled n v) ∙ spelled-size n v
+length-octets bigEndian n v = length-reverse (octetsLowestFirst n v) ∙ spelled-size n v
 
 octets-octets : (o : Order) (n v : ℕ) → Octets (inOctets o n v)
 unfolding inOctets
 octets-octets littleEndian n v = spelled-octets n v
-octets-octets bigEndian n v = reverse-octets (spelled n v) (spelled-octets n v)
+octets-octets bigEndian n v = reverse-octets (octetsLowestFirst n v) (spelled-octets n v)
 
 pub number-below : (o : Order) (xs : List ℕ) → Octets xs → number o xs < 256 ^ length xs
 unfolding number
@@ -86,7 +87,7 @@ number-below bigEndian xs h = rw (length-reverse xs) at (lowest-below (reverse x
 pub number-back : (o : Order) (n v : ℕ) → v < 256 ^ n → number o (inOctets o n v) ≡ v
 unfolding number inOctets
 number-back littleEndian n v h = lowest-back n v h
-number-back bigEndian n v h = rw (reverse-reverse (spelled n v)) (lowest-back n v h)
+number-back bigEndian n v h = rw (reverse-reverse (octetsLowestFirst n v)) (lowest-back n v h)
 
 pub octets-again : (o : Order) (xs : List ℕ) → Octets xs → inOctets o (length xs) (number o xs) ≡ xs
 unfolding number inOctets
@@ -116,65 +117,32 @@ pub signed-back : (at : ℕ) (z : ℤ) (s : List ℕ) → at + 8 ≤ length s �
 signed-back at z s h fits =
     ap (toZ w64) (put-back littleEndian 8 at (ofZ w64 z) s h (fits-lt-pow (fits-ofZ fits))) ∙ toZ-ofZ fits
 
-pub numbers : Numbers
-numbers = record {
-  size = length-octets;
-  octets = octets-octets;
-  below = number-below;
-  back = number-back;
-  again = octets-again;
-  put-back = put-back;
-  put-others = λ o n at v s i h w. put-others o n at v s h i w;
-  signed-back = signed-back;
-  lowest-fits = record { sfits = omega arith };
-}
-
 -- ── one octet more ──
 
 -- read from the highest down: what is read so far, times 256, and the next octet
 pub big-more : (xs : List ℕ) (x : ℕ) → number bigEndian (xs ++ (x ∷ [])) ≡ number bigEndian xs * 256 + x
-unfolding number lowestFirst
+unfolding number numberLowestFirst
 big-more xs x = rw (reverse-append xs (x ∷ [])) (omega arith)
 
 pub little-more : (x : ℕ) (xs : List ℕ) → number littleEndian (x ∷ xs) ≡ number littleEndian xs * 256 + x
-unfolding number lowestFirst
+unfolding number numberLowestFirst
 little-more x xs = omega arith
-
--- written from the lowest up: octet n is what is left after n divisions by 256
-spelled-more : (n v : ℕ) → spelled (suc n) v ≡ spelled n v ++ (v / 256 ^ n % 256 ∷ [])
-unfolding spelled
-spelled-more zero v = rw (pow-zero 256, div-one v)
-spelled-more (suc n) v =
-    let e : v / 256 / 256 ^ n ≡ v / 256 ^ suc n = div-div-eq-div-mul v 256 (256 ^ n) ∙ ap (λ (k : ℕ). v / k) (sym (pow-succ' 256 n)) in
-    ap (λ (l : List ℕ). v % 256 ∷ l) (spelled-more n (v / 256)) ∙ rw e
-
-pub little-next : (n v : ℕ) → inOctets littleEndian (n + 1) v ≡ inOctets littleEndian n v ++ (v / 256 ^ n % 256 ∷ [])
-unfolding inOctets
-little-next n v = rw (add-one n) (spelled-more n v)
-
-pub big-next : (n v : ℕ) → inOctets bigEndian (n + 1) v ≡ v / 256 ^ n % 256 ∷ inOctets bigEndian n v
-unfolding inOctets
-big-next n v = rw (add-one n, spelled-more n v) (reverse-append (spelled n v) (v / 256 ^ n % 256 ∷ []))
-
--- one division more
-pub divided : (n v : ℕ) → v / 256 ^ n / 256 ≡ v / 256 ^ (n + 1)
-divided n v = div-div-eq-div-mul v (256 ^ n) 256 ∙ ap (λ (k : ℕ). v / k) (sym (pow-suc 256 n) ∙ ap (λ (k : ℕ). 256 ^ k) (sym (add-one n)))
 
 -- ── two runs of octets side by side ──
 
-lowest-append : (xs ys : List ℕ) → lowestFirst (xs ++ ys) ≡ lowestFirst xs + 256 ^ length xs * lowestFirst ys
-unfolding lowestFirst
+lowest-append : (xs ys : List ℕ) → numberLowestFirst (xs ++ ys) ≡ numberLowestFirst xs + 256 ^ length xs * numberLowestFirst ys
+unfolding numberLowestFirst
 lowest-append [] ys = omega (arith, pow-zero 256)
 lowest-append (x ∷ xs) ys =
-    rw (lowest-append xs ys, pow-succ' 256 (length xs), mul-assoc 256 (256 ^ length xs) (lowestFirst ys)) (omega arith)
+    rw (lowest-append xs ys, pow-succ' 256 (length xs), mul-assoc 256 (256 ^ length xs) (numberLowestFirst ys)) (omega arith)
 
 -- octets of a lower and a higher half
 pub little-append : (xs ys : List ℕ) → number littleEndian (xs ++ ys) ≡ number littleEndian xs + 256 ^ length xs * number littleEndian ys
 unfolding number
 little-append xs ys = lowest-append xs ys
 
-spelled-append : (m n v : ℕ) → spelled (m + n) v ≡ spelled m v ++ spelled n (v / 256 ^ m)
-unfolding spelled
+spelled-append : (m n v : ℕ) → octetsLowestFirst (m + n) v ≡ octetsLowestFirst m v ++ octetsLowestFirst n (v / 256 ^ m)
+unfolding octetsLowestFirst
 spelled-append zero n v = rw (zero-add n, pow-zero 256, div-one v)
 spelled-append (suc m) n v =
     let e : v / 256 / 256 ^ m ≡ v / 256 ^ suc m = div-div-eq-div-mul v 256 (256 ^ m) ∙ ap (λ (k : ℕ). v / k) (sym (pow-succ' 256 m)) in
@@ -185,8 +153,8 @@ unfolding inOctets
 little-octets-append m n v = spelled-append m n v
 
 -- what does not fit in n octets makes no difference to them
-spelled-mod : (n v : ℕ) → spelled n (v % 256 ^ n) ≡ spelled n v
-unfolding spelled
+spelled-mod : (n v : ℕ) → octetsLowestFirst n (v % 256 ^ n) ≡ octetsLowestFirst n v
+unfolding octetsLowestFirst
 spelled-mod zero v = refl
 spelled-mod (suc n) v =
     let e : v % 256 ^ suc n ≡ v / 256 % 256 ^ n * 256 + v % 256 =
@@ -195,9 +163,27 @@ spelled-mod (suc n) v =
     let d : v % 256 ^ suc n / 256 ≡ v / 256 % 256 ^ n = omega arith in
     rw (m, d, spelled-mod n (v / 256))
 
-pub little-octets-mod : (n v : ℕ) → inOctets littleEndian n (v % 256 ^ n) ≡ inOctets littleEndian n v
+pub left-out : (o : Order) (n v : ℕ) → inOctets o n (v % 256 ^ n) ≡ inOctets o n v
 unfolding inOctets
-little-octets-mod n v = spelled-mod n v
+left-out littleEndian n v = spelled-mod n v
+left-out bigEndian n v = ap reverse (spelled-mod n v)
+
+-- written from the lowest up: octet n is what is left after n divisions by 256
+spelled-more : (n v : ℕ) → octetsLowestFirst (suc n) v ≡ octetsLowestFirst n v ++ (v / 256 ^ n % 256 ∷ [])
+unfolding octetsLowestFirst
+spelled-more n v = ap (λ (k : ℕ). octetsLowestFirst k v) (sym (add-one n)) ∙ spelled-append n 1 v
+
+pub little-next : (n v : ℕ) → inOctets littleEndian (n + 1) v ≡ inOctets littleEndian n v ++ (v / 256 ^ n % 256 ∷ [])
+unfolding inOctets
+little-next n v = rw (add-one n) (spelled-more n v)
+
+pub big-next : (n v : ℕ) → inOctets bigEndian (n + 1) v ≡ v / 256 ^ n % 256 ∷ inOctets bigEndian n v
+unfolding inOctets
+big-next n v = rw (add-one n, spelled-more n v) (reverse-append (octetsLowestFirst n v) (v / 256 ^ n % 256 ∷ []))
+
+-- one division more
+pub divided : (n v : ℕ) → v / 256 ^ n / 256 ≡ v / 256 ^ (n + 1)
+divided n v = div-div-eq-div-mul v (256 ^ n) 256 ∙ ap (λ (k : ℕ). v / k) (sym (pow-suc 256 n) ∙ ap (λ (k : ℕ). 256 ^ k) (sym (add-one n)))
 
 -- eight octets are two halves of four
 pub eight-read : (at : ℕ) (s : List ℕ) → at + 8 ≤ length s
@@ -216,9 +202,67 @@ pub eight-write : (at v : ℕ) (s : List ℕ) → at + 8 ≤ length s
 eight-write at v s h =
     let low = inOctets littleEndian 4 v in
     let high = inOctets littleEndian 4 (v / 2 ^ 32) in
-    let e : length low ≡ 4 = length-octets littleEndian 4 v in
     let f : length high ≡ 4 = length-octets littleEndian 4 (v / 2 ^ 32) in
-    ap (λ (l : List ℕ). laid (at + 4) high (laid at l s)) (little-octets-mod 4 v)
-    ∙ ap (λ (k : ℕ). laid (at + k) high (laid at low s)) (sym e)
-    ∙ laid-append at low high s (omega arith)
+    ap (λ (l : List ℕ). laid (at + 4) high (laid at l s)) (left-out littleEndian 4 v)
+    ∙ laid-next at 4 low high s (length-octets littleEndian 4 v) (omega arith)
     ∙ ap (λ (l : List ℕ). laid at l s) (sym (little-octets-append 4 4 v))
+
+-- ── what is said ──
+
+nothing : (o : Order) → number o [] ≡ 0
+unfolding number numberLowestFirst
+nothing littleEndian = refl
+nothing bigEndian = refl
+
+lowest-first : (x : ℕ) (xs : List ℕ) → number littleEndian (x ∷ xs) ≡ x + 256 * number littleEndian xs
+unfolding number numberLowestFirst
+lowest-first x xs = refl
+
+highest-first : (x : ℕ) (xs : List ℕ) → number bigEndian (x ∷ xs) ≡ x * 256 ^ length xs + number bigEndian xs
+unfolding number numberLowestFirst
+highest-first x xs = rw (reverse-cons x xs, lowest-append (reverse xs) (x ∷ []), length-reverse xs) (omega arith)
+
+take-octets : (n : ℕ) (xs : List ℕ) → Octets xs → Octets (take n xs)
+take-octets zero xs h i = omega arith
+take-octets (suc n) [] h i = h i
+take-octets (suc n) (x ∷ xs) h zero = h 0
+take-octets (suc n) (x ∷ xs) h (suc i) = take-octets n xs (tail-octets x xs h) i
+
+pub part-octets : (at n : ℕ) (s : List ℕ) → Octets s → Octets (part at n s)
+unfolding part
+part-octets at n s h = take-octets n (drop at s) (λ k. rw (getD-drop at s k 0) (h (at + k)))
+
+pub read-again : (o : Order) (n at : ℕ) (s : List ℕ) → at + n ≤ length s → Octets s → inOctets o n (number o (part at n s)) ≡ part at n s
+read-again o n at s fits h = rw (length-part at n s fits) at (octets-again o (part at n s) (part-octets at n s h))
+
+pub signed-again : (at : ℕ) (s : List ℕ) → at + 8 ≤ length s → Octets s
+    → inOctets littleEndian 8 (ofZ w64 (toZ w64 (number littleEndian (part at 8 s)))) ≡ part at 8 s
+signed-again at s fits h =
+    let e : length (part at 8 s) ≡ 8 = length-part at 8 s fits in
+    let b : number littleEndian (part at 8 s) < 256 ^ 8 = rw e at (number-below littleEndian (part at 8 s) (part-octets at 8 s h)) in
+    let f : Fits w64 (number littleEndian (part at 8 s)) = omega arith in
+    rw (ofZ-toZ f) (read-again littleEndian 8 at s fits h)
+
+minus-one : toZ w64 (number littleEndian (replicate 8 255)) ≡ negsuc 0
+unfolding number numberLowestFirst
+minus-one = refl
+
+pub numbers : Numbers
+numbers = record {
+  nothing = nothing;
+  highest-first = highest-first;
+  lowest-first = lowest-first;
+  size = length-octets;
+  octets = octets-octets;
+  left-out = left-out;
+  below = number-below;
+  back = number-back;
+  octets-back = octets-again;
+  put-back = put-back;
+  put-others = λ o n at v s i h w. put-others o n at v s h i w;
+  read-again = read-again;
+  signed-back = signed-back;
+  signed-again = signed-again;
+  minus-one = minus-one;
+  lowest-fits = record { sfits = omega arith };
+}

@@ -5,24 +5,24 @@ use denote.Ref.{now}
 use Rattle.octets.proofs.numbers.octet.Reads as octet
 use Rattle.octets.proofs.numbers.read_big.Reads as read-big
 use Rattle.octets.proofs.numbers.read_little.Reads as read-little
-use Rattle.octets.proofs.numbers.read_signed.Reads as read-signed
+use Rattle.octets.proofs.numbers.read_little_signed.Reads as read-little-signed
 use Rattle.octets.proofs.numbers.write_big.Reads as write-big
 use Rattle.octets.proofs.numbers.write_little.Reads as write-little
-use Rattle.octets.proofs.numbers.write_signed.Reads as write-signed
-use Rattle.octets.proofs.runs.copy_octets.Reads as copy-octets
-use Rattle.octets.proofs.runs.same_octets.Reads as same-octets
+use Rattle.octets.proofs.numbers.write_little_signed.Reads as write-little-signed
+use Rattle.octets.proofs.parts.copy_octets.Reads as copy-octets
+use Rattle.octets.proofs.parts.same_octets.Reads as same-octets
 
 pub octet-one : (κs : _) (a : _) (r r′ : _) (s s′ : _) → octet.Post κs a r s → octet.Post κs a r′ s′ → r ≡ r′
-octet-one κs a r r′ s s′ p q = p .0 ∙ sym (q .0)
+octet-one κs a r r′ s s′ p q = p .is ∙ sym (q .is)
 
 pub read-big-one : (κs : _) (a : _) (r r′ : _) (s s′ : _) → read-big.Post κs a r s → read-big.Post κs a r′ s′ → r ≡ r′
-read-big-one κs a r r′ s s′ p q = p .0 ∙ sym (q .0)
+read-big-one κs a r r′ s s′ p q = p .is ∙ sym (q .is)
 
 pub read-little-one : (κs : _) (a : _) (r r′ : _) (s s′ : _) → read-little.Post κs a r s → read-little.Post κs a r′ s′ → r ≡ r′
-read-little-one κs a r r′ s s′ p q = p .0 ∙ sym (q .0)
+read-little-one κs a r r′ s s′ p q = p .is ∙ sym (q .is)
 
-pub read-signed-one : (κs : _) (a : _) (r r′ : _) (s s′ : _) → read-signed.Post κs a r s → read-signed.Post κs a r′ s′ → r ≡ r′
-read-signed-one κs a r r′ s s′ p q = p ∙ sym q
+pub read-little-signed-one : (κs : _) (a : _) (r r′ : _) (s s′ : _) → read-little-signed.Post κs a r s → read-little-signed.Post κs a r′ s′ → r ≡ r′
+read-little-signed-one κs a r r′ s s′ p q = p ∙ sym q
 
 pub write-big-one : (κs : _) (a : _) (r r′ : _) (s s′ : _) → write-big.Post κs a r s → write-big.Post κs a r′ s′ → now (s .0) ≡ now (s′ .0)
 write-big-one κs a r r′ s s′ p q = p ∙ sym q
@@ -30,8 +30,8 @@ write-big-one κs a r r′ s s′ p q = p ∙ sym q
 pub write-little-one : (κs : _) (a : _) (r r′ : _) (s s′ : _) → write-little.Post κs a r s → write-little.Post κs a r′ s′ → now (s .0) ≡ now (s′ .0)
 write-little-one κs a r r′ s s′ p q = p ∙ sym q
 
-pub write-signed-one : (κs : _) (a : _) (r r′ : _) (s s′ : _) → write-signed.Post κs a r s → write-signed.Post κs a r′ s′ → now (s .0) ≡ now (s′ .0)
-write-signed-one κs a r r′ s s′ p q = p ∙ sym q
+pub write-little-signed-one : (κs : _) (a : _) (r r′ : _) (s s′ : _) → write-little-signed.Post κs a r s → write-little-signed.Post κs a r′ s′ → now (s .0) ≡ now (s′ .0)
+write-little-signed-one κs a r r′ s s′ p q = p ∙ sym q
 
 pub copy-octets-one : (κs : _) (a : _) (r r′ : _) (s s′ : _) → copy-octets.Post κs a r s → copy-octets.Post κs a r′ s′ → now (s .0) ≡ now (s′ .0)
 copy-octets-one κs a r r′ s s′ p q = p ∙ sym q

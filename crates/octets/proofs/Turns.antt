@@ -1,4 +1,4 @@
--- One turn of each loop of src/numbers.rt and src/runs.rt. Assumes nothing.
+-- One turn of each loop of src/numbers.rt and src/parts.rt. Assumes nothing.
 use Prim.Native.Nat.{ℕ, _+_, _*_, _/_, _%_, _^_, _-_, _≤_, _<_}
 use mathlib.Core.Path.{_≡_, sym, ap, _∙_}
 use mathlib.Core.List.{List, [], _∷_, _++_}
@@ -10,7 +10,7 @@ use lib.ListN.{length, getD, set, take}
 use lib.Seq.{length-take-le, take-suc}
 use Rattle.whole.specs.Lists.{part, laid}
 use Rattle.whole.proofs.Lists.{part-append, part-cons, part-none, laid-none, laid-more, laid-before}
-use Rattle.octets.specs.Numbers.{Order, littleEndian, bigEndian, number, lowestFirst, spelled, inOctets}
+use Rattle.octets.specs.Numbers.{Order, littleEndian, bigEndian, number, numberLowestFirst, octetsLowestFirst, inOctets}
 use Rattle.octets.proofs.Laws.{big-more, little-more, little-next, big-next, length-octets, divided}
 
 -- a number in k octets, and one octet more
@@ -26,11 +26,11 @@ part-one at s h = part-cons at 0 s 0 h ∙ ap (λ (l : List ℕ). getD s at 0 �
 
 -- no octets spell 0
 pub big-none : (at : ℕ) (s : List ℕ) → 0 ≡ number bigEndian (part at 0 s)
-unfolding number lowestFirst
+unfolding number numberLowestFirst
 big-none at s = sym (ap (number bigEndian) (part-none at s))
 
 pub little-none : (at : ℕ) (s : List ℕ) → 0 ≡ number littleEndian (part at 0 s)
-unfolding number lowestFirst
+unfolding number numberLowestFirst
 little-none at s = sym (ap (number littleEndian) (part-none at s))
 
 -- the number that i octets and one more behind them spell, the highest first
@@ -66,7 +66,7 @@ module _ (at n : ℕ) (s : List ℕ) where
 
 -- loops that write v, octet by octet from the lowest: at the start nothing is laid, and each turn lays one more
 pub laid-nothing : (o : Order) (at v : ℕ) (s : List ℕ) → s ≡ laid at (inOctets o 0 v) s
-unfolding inOctets spelled
+unfolding inOctets octetsLowestFirst
 laid-nothing littleEndian at v s = sym (laid-none at s)
 laid-nothing bigEndian at v s = sym (laid-none at s)
 

@@ -1,16 +1,16 @@
 // A number in n octets, read from a slice at a place and written into one.
 ghost use mathlib.Core.Path.{_≡_};
-ghost use Prim.Native.Nat.{_+_, _^_, _≤_, _<_};
-ghost use lib.ListN.{length, getD};
+ghost use Prim.Native.Nat.{_+_, _≤_, _<_};
+ghost use lib.ListN.{length};
 ghost use mir.Syntax.{w64};
 ghost use mir.Val.{toZ, ofZ};
 ghost use Rattle.whole.specs.Lists.{part, laid};
-ghost use Rattle.octets.specs.Numbers.{number, inOctets, littleEndian, bigEndian};
+ghost use Rattle.octets.specs.Numbers.{number, inOctets, littleEndian, bigEndian, NumberAt, OctetAt};
 
 // The octet at a place, widened.
 pub fn octet(from: &[u8], at: usize) -> u32
     requires { ⌜ at < length (now from) ⌝ }
-    ensures { λ r. ⌜ (r ≡ getD (now (from .entry)) at 0) × (r < 256) ⌝ }
+    ensures { λ r. ⌜ OctetAt (now (from .entry)) at r ⌝ }
 {
     from[at] as u32
 }
@@ -18,7 +18,7 @@ pub fn octet(from: &[u8], at: usize) -> u32
 // The number in the n octets at a place, the highest first, as on the wire.
 pub fn read_big(from: &[u8], at: usize, n: usize) -> u32
     requires { ⌜ (n ≤ 4) × (at + n ≤ length (now from)) ⌝ }
-    ensures { λ r. ⌜ (r ≡ number bigEndian (part at n (now (from .entry)))) × (r < 256 ^ n) ⌝ }
+    ensures { λ r. ⌜ NumberAt bigEndian (now (from .entry)) at n r ⌝ }
 {
     let mut sum: u32 = 0;
     let mut i: usize = 0;
@@ -32,7 +32,7 @@ pub fn read_big(from: &[u8], at: usize, n: usize) -> u32
 // The number in the n octets at a place, the lowest first, as in stored records.
 pub fn read_little(from: &[u8], at: usize, n: usize) -> u32
     requires { ⌜ (n ≤ 4) × (at + n ≤ length (now from)) ⌝ }
-    ensures { λ r. ⌜ (r ≡ number littleEndian (part at n (now (from .entry)))) × (r < 256 ^ n) ⌝ }
+    ensures { λ r. ⌜ NumberAt littleEndian (now (from .entry)) at n r ⌝ }
 {
     let mut sum: u32 = 0;
     let mut left: usize = n;
@@ -94,7 +94,7 @@ fn bits_of(value: i64) -> u64
 }
 
 // The signed number in the eight octets at a place, two's complement, the lowest first.
-pub fn read_signed(from: &[u8], at: usize) -> i64
+pub fn read_little_signed(from: &[u8], at: usize) -> i64
     requires { ⌜ at + 8 ≤ length (now from) ⌝ }
     ensures { λ r. ⌜ r ≡ toZ w64 (number littleEndian (part at 8 (now (from .entry)))) ⌝ }
 {
@@ -104,7 +104,7 @@ pub fn read_signed(from: &[u8], at: usize) -> i64
 }
 
 // Writes a signed number into the eight octets at a place, two's complement, the lowest first.
-pub fn write_signed(into: &mut [u8], at: usize, value: i64)
+pub fn write_little_signed(into: &mut [u8], at: usize, value: i64)
     requires { ⌜ at + 8 ≤ length (now into) ⌝ }
     ensures { λ _. ⌜ now (into .exit) ≡ laid at (inOctets littleEndian 8 (ofZ w64 value)) (now (into .entry)) ⌝ }
 {

@@ -7,12 +7,12 @@ use mathlib.Core.Logic.{_↔_, _⊎_, inl, inr, ⊎-elim}
 use native.Mathlib.Omega.{arith}
 use native.Mathlib.Numerals.{add-one}
 use native.Mathlib.Nat.{add-zero}
-use lib.Dec.{eqb}
+use lib.Dec.{eqb, ltb}
 use lib.ListN.{length, getD, set, take, drop, length-append, length-drop, take-append-drop, List·getD-append}
 use lib.Seq.{length-take-le, take-at, drop-at, take-add, drop-drop, take-all, drop-cons, getD-take, getD-drop, getD-append-add, drop-append-add, append-snoc, set-at, take-suc, ext-getD}
-use borrow.Author.Tests.{eq-eqb, ne-eqb, eqb-true, eqb-false, not-true}
-use Rattle.whole.specs.Lists.{part, laid, every, everyPair, same, absent, distinct, placeOf, Parts, Means}
-use Rattle.whole.proofs.Tests.{known, and-true}
+use borrow.Author.Tests.{eq-eqb, ne-eqb, eqb-true, eqb-false, ltb-true, ltb-false, not-true}
+use Rattle.whole.specs.Lists.{part, laid, every, everyBelow, everyPair, same, absent, distinct, placeOf, Parts, Meanings}
+use Rattle.whole.proofs.Tests.{known, both-true}
 
 -- ── parts ──
 
@@ -39,6 +39,11 @@ module _ {A : Type 0} where
   unfolding part
   getD-part at n l d i h = getD-take n (drop at l) i d h ∙ getD-drop at l i d
 
+  -- a part of what stands from a place on
+  pub part-drop : (from at n : ℕ) (l : List A) → part at n (drop from l) ≡ part (from + at) n l
+  unfolding part
+  part-drop from at n l = ap (take n) (drop-drop at from l)
+
   -- the part of a whole list is the list
   pub part-all : (l : List A) → part 0 (length l) l ≡ l
   unfolding part
@@ -57,6 +62,10 @@ module _ {A : Type 0} where
       ap (take n) e ∙ take-at xs q n hn
 
   -- ── laid ──
+
+  -- what stands before what is laid, with it
+  front-long : (at : ℕ) (xs l : List A) → at ≤ length l → length (take at l ++ xs) ≡ at + length xs
+  front-long at xs l h = length-append (take at l) xs ∙ ap (λ (k : ℕ). k + length xs) (length-take-le at l h)
 
   pub laid-none : (at : ℕ) (l : List A) → laid at [] l ≡ l
   unfolding laid
@@ -82,7 +91,7 @@ module _ {A : Type 0} where
         p = take at l ++ xs
 
         long : length p ≡ at + length xs
-        long = length-append (take at l) xs ∙ ap (λ (k : ℕ). k + length xs) front
+        long = front-long at xs l (omega arith)
 
         before : i < at → getD (laid at xs l) i d ≡ getD l i d
         before h =
@@ -108,7 +117,7 @@ module _ {A : Type 0} where
   laid-append at xs ys l h =
       let p = take at l ++ xs in
       let q = drop (at + length xs) l in
-      let long : length p ≡ at + length xs = length-append (take at l) xs ∙ ap (λ (k : ℕ). k + length xs) (length-take-le at l (omega arith)) in
+      let long : length p ≡ at + length xs = front-long at xs l (omega arith) in
       let t : take (at + length xs) (p ++ q) ≡ p = take-at p q (at + length xs) long in
       let e : at + length xs + length ys ≡ length p + length ys = omega arith in
       let d : drop (at + length xs + length ys) (p ++ q) ≡ drop (at + length xs + length ys) l =
@@ -119,13 +128,18 @@ module _ {A : Type 0} where
       ∙ ap (λ (m : List A). m ++ drop (at + length xs + length ys) l) (append-assoc (take at l) xs ys)
       ∙ ap (λ (k : ℕ). take at l ++ (xs ++ ys) ++ drop k l) n
 
+  -- the same where the first is n long
+  pub laid-next : (at n : ℕ) (xs ys l : List A) → length xs ≡ n → at + n + length ys ≤ length l → laid (at + n) ys (laid at xs l) ≡ laid at (xs ++ ys) l
+  laid-next at n xs ys l e h =
+      ap (λ (k : ℕ). laid (at + k) ys (laid at xs l)) (sym e) ∙ laid-append at xs ys l (omega arith)
+
   -- one element more stored behind what is laid
   pub laid-more : (at : ℕ) (xs l : List A) (x : A) → at + length xs < length l → set (laid at xs l) (at + length xs) x ≡ laid at (xs ++ (x ∷ [])) l
   unfolding laid
   laid-more at xs l x h =
       let n = at + length xs in
       let p = take at l ++ xs in
-      let long : length p ≡ n = length-append (take at l) xs ∙ ap (λ (k : ℕ). k + length xs) (length-take-le at l (omega arith)) in
+      let long : length p ≡ n = front-long at xs l (omega arith) in
       let next : suc n ≡ at + length (xs ++ (x ∷ [])) = rw length-append (omega arith) in
       ap (λ (m : List A). set (p ++ m) n x) (drop-cons l n x h)
       ∙ set-at p (getD l n x) (drop (suc n) l) x n long
@@ -157,13 +171,13 @@ module _ {A : Type 0} (test : A → Bool) where
   every-at : (l : List A) (d : A) → every test l ≡ true → (i : ℕ) → i < length l → test (getD l i d) ≡ true
   unfolding every
   every-at [] d h i k = absurd (omega arith)
-  every-at (x ∷ l) d h zero k = and-true (test x) (every test l) .0 h .0
-  every-at (x ∷ l) d h (suc i) k = every-at l d (and-true (test x) (every test l) .0 h .1) i (omega arith)
+  every-at (x ∷ l) d h zero k = both-true (test x) (every test l) .0 h .0
+  every-at (x ∷ l) d h (suc i) k = every-at l d (both-true (test x) (every test l) .0 h .1) i (omega arith)
 
   every-from : (l : List A) (d : A) → ((i : ℕ) → i < length l → test (getD l i d) ≡ true) → every test l ≡ true
   unfolding every
   every-from [] d h = refl
-  every-from (x ∷ l) d h = and-true (test x) (every test l) .1 (h 0 (omega arith), every-from l d (λ i k. h (suc i) (omega arith)))
+  every-from (x ∷ l) d h = both-true (test x) (every test l) .1 (h 0 (omega arith), every-from l d (λ i k. h (suc i) (omega arith)))
 
   pub every-is : (l : List A) (d : A) → (every test l ≡ true) ↔ ((i : ℕ) → i < length l → test (getD l i d) ≡ true)
   every-is l d = (every-at l d, every-from l d)
@@ -172,8 +186,18 @@ module _ {A : Type 0} (test : A → Bool) where
   pub every-anywhere : (l : List A) (d : A) → every test l ≡ true → test d ≡ true → (i : ℕ) → test (getD l i d) ≡ true
   unfolding every
   every-anywhere [] d h z i = z
-  every-anywhere (x ∷ l) d h z zero = and-true (test x) (every test l) .0 h .0
-  every-anywhere (x ∷ l) d h z (suc i) = every-anywhere l d (and-true (test x) (every test l) .0 h .1) z i
+  every-anywhere (x ∷ l) d h z zero = both-true (test x) (every test l) .0 h .0
+  every-anywhere (x ∷ l) d h z (suc i) = every-anywhere l d (both-true (test x) (every test l) .0 h .1) z i
+
+pub below-is : (test : ℕ → Bool) (n : ℕ) → everyBelow test n ≡ true → (i : ℕ) → i < n → test i ≡ true
+unfolding everyBelow
+below-is test zero h i k = absurd (omega arith)
+below-is test (suc n) h i k =
+    let b = both-true (test n) (everyBelow test n) .0 h in
+    ⊎-elim
+    (λ (e : eqb i n ≡ true). rw (eqb-true i n e) (b .0))
+    (λ (e : eqb i n ≡ false). below-is test n (b .1) i (omega (arith, eqb-false i n e)))
+    (known (eqb i n))
 
 module _ {A B : Type 0} (test : A → B → Bool) where
   pair-long : (l : List A) (m : List B) → everyPair test l m ≡ true → length l ≡ length m
@@ -181,15 +205,15 @@ module _ {A B : Type 0} (test : A → B → Bool) where
   pair-long [] [] h = refl
   pair-long [] (y ∷ m) h = absurd (false≢true h)
   pair-long (x ∷ l) [] h = absurd (false≢true h)
-  pair-long (x ∷ l) (y ∷ m) h = ap suc (pair-long l m (and-true (test x y) (everyPair test l m) .0 h .1))
+  pair-long (x ∷ l) (y ∷ m) h = ap suc (pair-long l m (both-true (test x y) (everyPair test l m) .0 h .1))
 
   pair-at : (l : List A) (m : List B) (d : A) (e : B) → everyPair test l m ≡ true → (i : ℕ) → i < length l → test (getD l i d) (getD m i e) ≡ true
   unfolding everyPair
   pair-at [] [] d e h i k = absurd (omega arith)
   pair-at [] (y ∷ m) d e h i k = absurd (false≢true h)
   pair-at (x ∷ l) [] d e h i k = absurd (false≢true h)
-  pair-at (x ∷ l) (y ∷ m) d e h zero k = and-true (test x y) (everyPair test l m) .0 h .0
-  pair-at (x ∷ l) (y ∷ m) d e h (suc i) k = pair-at l m d e (and-true (test x y) (everyPair test l m) .0 h .1) i (omega arith)
+  pair-at (x ∷ l) (y ∷ m) d e h zero k = both-true (test x y) (everyPair test l m) .0 h .0
+  pair-at (x ∷ l) (y ∷ m) d e h (suc i) k = pair-at l m d e (both-true (test x y) (everyPair test l m) .0 h .1) i (omega arith)
 
   pair-from : (l : List A) (m : List B) (d : A) (e : B) → length l ≡ length m
       → ((i : ℕ) → i < length l → test (getD l i d) (getD m i e) ≡ true) → everyPair test l m ≡ true
@@ -198,7 +222,7 @@ module _ {A B : Type 0} (test : A → B → Bool) where
   pair-from [] (y ∷ m) d e n h = absurd (omega arith)
   pair-from (x ∷ l) [] d e n h = absurd (omega arith)
   pair-from (x ∷ l) (y ∷ m) d e n h =
-      and-true (test x y) (everyPair test l m) .1 (h 0 (omega arith), pair-from l m d e (omega arith) (λ i k. h (suc i) (omega arith)))
+      both-true (test x y) (everyPair test l m) .1 (h 0 (omega arith), pair-from l m d e (omega arith) (λ i k. h (suc i) (omega arith)))
 
   pub pair-is : (l : List A) (m : List B) (d : A) (e : B)
       → (everyPair test l m ≡ true) ↔ ((length l ≡ length m) × ((i : ℕ) → i < length l → test (getD l i d) (getD m i e) ≡ true))
@@ -211,8 +235,8 @@ module _ {A B : Type 0} (test : A → B → Bool) where
   pair-anywhere [] [] d e h z i = z
   pair-anywhere [] (y ∷ m) d e h z i = absurd (false≢true h)
   pair-anywhere (x ∷ l) [] d e h z i = absurd (false≢true h)
-  pair-anywhere (x ∷ l) (y ∷ m) d e h z zero = and-true (test x y) (everyPair test l m) .0 h .0
-  pair-anywhere (x ∷ l) (y ∷ m) d e h z (suc i) = pair-anywhere l m d e (and-true (test x y) (everyPair test l m) .0 h .1) z i
+  pair-anywhere (x ∷ l) (y ∷ m) d e h z zero = both-true (test x y) (everyPair test l m) .0 h .0
+  pair-anywhere (x ∷ l) (y ∷ m) d e h z (suc i) = pair-anywhere l m d e (both-true (test x y) (everyPair test l m) .0 h .1) z i
 
 pub same-is : (l m : List ℕ) → (same l m ≡ true) ↔ (l ≡ m)
 same-is l m = (to, from)
@@ -235,14 +259,14 @@ distinct-to : (l : List ℕ) → distinct l ≡ true → (i j : ℕ) → i < j �
 unfolding distinct
 distinct-to [] h i j k m e = omega arith
 distinct-to (x ∷ l) h i zero k m e = omega arith
-distinct-to (x ∷ l) h zero (suc j) k m e = absent-is x l .0 (and-true (absent x l) (distinct l) .0 h .0) j (omega arith) (sym e)
-distinct-to (x ∷ l) h (suc i) (suc j) k m e = distinct-to l (and-true (absent x l) (distinct l) .0 h .1) i j (omega arith) (omega arith) e
+distinct-to (x ∷ l) h zero (suc j) k m e = absent-is x l .0 (both-true (absent x l) (distinct l) .0 h .0) j (omega arith) (sym e)
+distinct-to (x ∷ l) h (suc i) (suc j) k m e = distinct-to l (both-true (absent x l) (distinct l) .0 h .1) i j (omega arith) (omega arith) e
 
 distinct-from : (l : List ℕ) → ((i j : ℕ) → i < j → j < length l → getD l i 0 ≡ getD l j 0 → ⊥) → distinct l ≡ true
 unfolding distinct
 distinct-from [] h = refl
 distinct-from (x ∷ l) h =
-    and-true (absent x l) (distinct l) .1 (
+    both-true (absent x l) (distinct l) .1 (
       absent-is x l .1 (λ j k e. h 0 (suc j) (omega arith) (omega arith) (sym e)),
       distinct-from l (λ i j k m e. h (suc i) (suc j) (omega arith) (omega arith) e),
     )
@@ -287,9 +311,25 @@ place-first x (y ∷ l) (suc i) h e =
     (λ n. place-first x l i (omega (arith, place-later x y l n)) e)
     (is-x x y)
 
-pub means : Means
-means = record {
+pub place-absent : (x : ℕ) (l : List ℕ) → (placeOf x l ≡ length l) ↔ (absent x l ≡ true)
+place-absent x l = (to, from)
+  where
+    to : placeOf x l ≡ length l → absent x l ≡ true
+    to e = absent-is x l .1 (λ i k. place-first x l i (omega arith))
+
+    from : absent x l ≡ true → placeOf x l ≡ length l
+    from h =
+        ⊎-elim
+        (λ (t : ltb (placeOf x l) (length l) ≡ true).
+        let k : placeOf x l < length l = ltb-true (placeOf x l) (length l) t in
+        absurd (absent-is x l .0 h (placeOf x l) k (place-holds x l k)))
+        (λ (t : ltb (placeOf x l) (length l) ≡ false). omega (arith, place-most x l, ltb-false (placeOf x l) (length l) t))
+        (known (ltb (placeOf x l) (length l)))
+
+pub meanings : Meanings
+meanings = record {
   every-is = every-is;
+  below-is = below-is;
   pair-is = pair-is;
   same-is = same-is;
   absent-is = absent-is;
@@ -297,4 +337,5 @@ means = record {
   place-holds = place-holds;
   place-first = place-first;
   place-most = place-most;
+  place-absent = place-absent;
 }

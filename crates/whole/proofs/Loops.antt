@@ -9,7 +9,7 @@ use native.Mathlib.Numerals.{add-one, one-add}
 use lib.ListN.{length, getD, set, take, drop, drop-of-length-le, length-drop}
 use lib.Seq.{drop-cons, take-all}
 use borrow.Author.Tests.{eq-eqb, ne-eqb}
-use Rattle.whole.specs.Lists.{every, everyPair, absent, distinct, placeOf, onFirst}
+use Rattle.whole.specs.Lists.{every, everyPair, absent, distinct, placeOf, onFirst, Changes}
 
 -- the part `&l[n..]` of a slice
 pub part-rest : {A : Type 0} (l : List A) (n : ℕ) → take (length l - n) (drop n l) ≡ drop n l
@@ -152,3 +152,20 @@ module _ {A : Type 0} (f : A → A) where
   onFirst-all zero (x ∷ l) h = absurd (omega arith)
   onFirst-all (suc i) [] h = refl
   onFirst-all (suc i) (x ∷ l) h = ap (λ (m : List A). f x ∷ m) (onFirst-all i l (omega arith))
+
+  onFirst-done : (n : ℕ) (l : List A) (d : A) (i : ℕ) → i < n → i < length l → getD (onFirst f n l) i d ≡ f (getD l i d)
+  unfolding onFirst
+  onFirst-done zero l d i h k = absurd (omega arith)
+  onFirst-done (suc n) [] d i h k = absurd (omega arith)
+  onFirst-done (suc n) (x ∷ l) d zero h k = refl
+  onFirst-done (suc n) (x ∷ l) d (suc i) h k = onFirst-done n l d i (omega arith) (omega arith)
+
+  onFirst-rest : (n : ℕ) (l : List A) (d : A) (i : ℕ) → n ≤ i → getD (onFirst f n l) i d ≡ getD l i d
+  unfolding onFirst
+  onFirst-rest zero l d i h = refl
+  onFirst-rest (suc n) [] d i h = refl
+  onFirst-rest (suc n) (x ∷ l) d zero h = absurd (omega arith)
+  onFirst-rest (suc n) (x ∷ l) d (suc i) h = onFirst-rest n l d i (omega arith)
+
+pub changes : Changes
+changes = record { long = onFirst-length; done = onFirst-done; rest = onFirst-rest }

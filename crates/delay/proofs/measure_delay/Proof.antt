@@ -15,7 +15,7 @@ use Rattle.delay.specs.declared.DelayAnswer.the-variants.{TwoWay, AllWay
 use Rattle.delay.specs.Stamps.{usable}
 use Rattle.delay.specs.Delays.{delaysOf}
 use Rattle.delay.specs.Told.{told, numbersOf}
-use Rattle.delay.proofs.Laws.{furthest, less-size, delays-bad, delays-two, delays-all}
+use Rattle.delay.proofs.Laws.{furthest, stay-size, delays-bad, delays-two, delays-all}
 use Rattle.delay.proofs.Numbers.{told-numbers}
 use Rattle.delay.proofs.measure_delay.Statement.{statement}
 use Rattle.delay.proofs.measure_delay.Tie as tie
@@ -73,7 +73,7 @@ difference-requires-2 c κs = search needs
 less-requires : tie.Need-less-requires
 less-requires c κs = let d = c .before .before .before in
     rw (back (d .difference .result) (all-fits d), back (c .difference2 .result) (stay-fits c))
-    (fits-size (d .difference .result -ℤ c .difference2 .result) (less-size (d .difference .result) (c .difference2 .result) (d .difference .ensures .1) (c .difference2 .ensures .1)))
+    (fits-size (d .difference .result -ℤ c .difference2 .result) (stay-size (d .difference .result) (c .difference2 .result) (d .difference .ensures .1) (c .difference2 .ensures .1)))
 
 difference-requires-3 : tie.Need-difference-requires-3
 difference-requires-3 c κs = search needs

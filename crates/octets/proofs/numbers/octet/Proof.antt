@@ -12,7 +12,7 @@ cast-result : tie.Need-cast-result
 cast-result c = omega (arith, c .shared-slice-known .given (c .before .args .at))
 
 returns : tie.Need-returns
-returns c = (refl, c .shared-slice-known .given (c .before .args .at) .fits)
+returns c = record { is = refl; small = c .shared-slice-known .given (c .before .args .at) .fits }
 
 pub octet-spec : {M : Type 1} → statement M
 octet-spec = tie.close (tie.spec shared-slice-read-result cast-result returns)

@@ -42,7 +42,7 @@ loop-again c = let l = c .before .before .loop in
       omega arith,
       (
         ap (λ (k : ℕ). k * 256 + c .octet .result) (l .inv .1 .0)
-            ∙ ap (λ (k : ℕ). number bigEndian (part (a .at) (l .i) (now (a .from))) * 256 + k) (c .octet .ensures .0)
+            ∙ ap (λ (k : ℕ). number bigEndian (part (a .at) (l .i) (now (a .from))) * 256 + k) (c .octet .ensures .is)
             ∙ sym (big-turn (a .at) (l .i) (now (a .from)) (omega arith)),
         more-below (l .i) (l .sum) (c .octet .result) (l .inv .1 .1) (omega arith),
       ),
@@ -52,7 +52,7 @@ returns : tie.Need-returns Inv-loop μ-loop
 returns c = let l = c .before .loop in
     let a = c .before .before .before .args in
     let e : l .i ≡ a .n = omega arith in
-    rw (sym e) (l .inv .1)
+    rw (sym e) (record { is = l .inv .1 .0; small = l .inv .1 .1 })
 
 pub read-big-spec : {M : Type 1} → statement M
 read-big-spec =

@@ -45,7 +45,7 @@ loop-again c = let l = c .before .before .loop in
     let more : a .n - (l .left - 1) ≡ a .n - l .left + 1 = omega arith in (
       omega arith,
       (
-        ap (λ (k : ℕ). l .sum * 256 + k) (c .octet .ensures .0)
+        ap (λ (k : ℕ). l .sum * 256 + k) (c .octet .ensures .is)
             ∙ sym (down-turn (a .at) (a .n) (now (a .from)) (l .left) (l .sum) (omega arith) (omega arith) (omega arith) (l .inv .1 .0)),
         rw more (more-below (a .n - l .left) (l .sum) (c .octet .result) (l .inv .1 .1) (omega arith)),
       ),
@@ -56,7 +56,7 @@ returns c = let l = c .before .loop in
     let a = c .before .before .before .args in
     let all : a .n - l .left ≡ a .n = omega arith in
     let front : a .at + l .left ≡ a .at = omega arith in
-    rw (front, all) at (l .inv .1)
+    record { is = rw (front, all) at (l .inv .1 .0); small = rw all at (l .inv .1 .1) }
 
 pub read-little-spec : {M : Type 1} → statement M
 read-little-spec =

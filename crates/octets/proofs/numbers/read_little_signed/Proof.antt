@@ -1,4 +1,4 @@
--- `octets::numbers::read_signed` meets its contract: eight octets are two halves of four, and the bits read back as they are.
+-- `octets::numbers::read_little_signed` meets its contract: eight octets are two halves of four, and the bits read back as they are.
 use mir.Val.{Fits, toZ, ofZ}
 use native.Mathlib.Omega.{arith}
 use mathlib.Core.Path.{ap, ap₂, _∙_}
@@ -9,8 +9,8 @@ use mir.Syntax.{w64}
 use mir.Facts.{ofZ-toZ}
 use Rattle.octets.proofs.Laws.{eight-read}
 use borrow.Author.Needs.{needs}
-use Rattle.octets.proofs.numbers.read_signed.Statement.{statement}
-use Rattle.octets.proofs.numbers.read_signed.Tie as tie
+use Rattle.octets.proofs.numbers.read_little_signed.Statement.{statement}
+use Rattle.octets.proofs.numbers.read_little_signed.Tie as tie
 
 read-little-requires : tie.Need-read-little-requires
 read-little-requires c κs = search needs
@@ -43,11 +43,11 @@ returns c = let a = c .before .before .before .before .args in
     let fits : Fits w64 (low .result + high .result * 4294967296) = omega arith in
     ap (λ (z : ℤ). toZ w64 (ofZ w64 z)) (c .signed-of .ensures)
     ∙ ap (toZ w64) (ofZ-toZ fits
-    ∙ ap₂ (λ (x y : ℕ). x + y * 4294967296) (low .ensures .0) (high .ensures .0)
+    ∙ ap₂ (λ (x y : ℕ). x + y * 4294967296) (low .ensures .is) (high .ensures .is)
     ∙ eight-read (a .at) (now (a .from)) (omega arith))
 
-pub read-signed-spec : {M : Type 1} → statement M
-read-signed-spec =
+pub read-little-signed-spec : {M : Type 1} → statement M
+read-little-signed-spec =
     tie.close
     (tie.spec
     read-little-requires

@@ -1,4 +1,4 @@
--- `octets::numbers::write_signed` meets its contract: eight octets are two halves of four, each laid by `write_little`.
+-- `octets::numbers::write_little_signed` meets its contract: eight octets are two halves of four, each laid by `write_little`.
 use mir.Syntax.{w64}
 use mir.Val.{ofZ}
 use Rattle.whole.proofs.Stored.{back}
@@ -11,8 +11,8 @@ use denote.Ref.{now}
 use Rattle.whole.specs.Lists.{laid}
 use Rattle.octets.specs.Numbers.{inOctets, littleEndian}
 use Rattle.octets.proofs.Laws.{eight-write}
-use Rattle.octets.proofs.numbers.write_signed.Statement.{statement}
-use Rattle.octets.proofs.numbers.write_signed.Tie as tie
+use Rattle.octets.proofs.numbers.write_little_signed.Statement.{statement}
+use Rattle.octets.proofs.numbers.write_little_signed.Tie as tie
 
 bits-of-requires : tie.Need-bits-of-requires
 bits-of-requires c κs = search needs
@@ -46,8 +46,8 @@ returns c = let first = c .before .before .before .before .before .before .write
     ∙ eight-write (a .at) b (now (a .into)) (omega arith)
     ∙ ap (λ (v : ℕ). laid (a .at) (inOctets littleEndian 8 v) (now (a .into))) value
 
-pub write-signed-spec : {M : Type 1} → statement M
-write-signed-spec =
+pub write-little-signed-spec : {M : Type 1} → statement M
+write-little-signed-spec =
     tie.close
     (tie.spec
     bits-of-requires

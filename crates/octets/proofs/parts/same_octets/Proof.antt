@@ -1,4 +1,4 @@
--- `octets::runs::same_octets` meets its contract. The loop's invariant: what is left to compare decides. The measure is what is left.
+-- `octets::parts::same_octets` meets its contract. The loop's invariant: what is left to compare decides. The measure is what is left.
 use native.Mathlib.Omega.{arith}
 use mathlib.Core.Path.{_≡_, refl, sym, _∙_}
 use Prim.Native.Nat.{_-_, _≤_}
@@ -8,8 +8,8 @@ use lib.ListN.{length, drop}
 use borrow.Author.Tests.{eq-eqb, ne-eqb}
 use Rattle.whole.specs.Lists.{same}
 use Rattle.whole.proofs.Loops.{pair-next, pair-fails, pair-end, pair-lengths}
-use Rattle.octets.proofs.runs.same_octets.Statement.{statement}
-use Rattle.octets.proofs.runs.same_octets.Tie as tie
+use Rattle.octets.proofs.parts.same_octets.Statement.{statement}
+use Rattle.octets.proofs.parts.same_octets.Tie as tie
 
 abbrev Inv-loop : tie.InvT-loop
 Inv-loop a b i₀ i = (i ≤ length a) × (same a b ≡ same (drop i a) (drop i b))

@@ -1,4 +1,4 @@
--- `octets::runs::copy_octets` meets its contract. The loop's invariant: the first i octets are laid. The measure is what is left of them.
+-- `octets::parts::copy_octets` meets its contract. The loop's invariant: the first i octets are laid. The measure is what is left of them.
 use native.Mathlib.Omega.{arith}
 use mathlib.Core.Path.{_≡_, refl, ap, sym, _∙_}
 use mathlib.Core.List.{List}
@@ -9,8 +9,8 @@ use lib.Seq.{take-all}
 use Rattle.whole.specs.Lists.{laid}
 use Rattle.whole.proofs.Lists.{laid-none}
 use Rattle.octets.proofs.Turns.{copy-turn}
-use Rattle.octets.proofs.runs.copy_octets.Statement.{statement}
-use Rattle.octets.proofs.runs.copy_octets.Tie as tie
+use Rattle.octets.proofs.parts.copy_octets.Statement.{statement}
+use Rattle.octets.proofs.parts.copy_octets.Tie as tie
 
 abbrev Inv-loop : tie.InvT-loop
 Inv-loop into₀ at from i₀ into i = (i ≤ length from) × (length into ≡ length into₀) × (into ≡ laid at (take i from) into₀)

@@ -44,6 +44,11 @@ module _ {A : Type 0} where
   unfolding part
   part-drop from at n l = ap (take n) (drop-drop at from l)
 
+  -- what stands from a place on is a part and what stands behind it
+  pub drop-part : (at n : ℕ) (l : List A) → drop at l ≡ part at n l ++ drop (at + n) l
+  unfolding part
+  drop-part at n l = sym (take-append-drop n (drop at l)) ∙ ap (λ (m : List A). take n (drop at l) ++ m) (drop-drop n at l)
+
   -- the part of a whole list is the list
   pub part-all : (l : List A) → part 0 (length l) l ≡ l
   unfolding part

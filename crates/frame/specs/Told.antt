@@ -1,0 +1,62 @@
+-- The paper's numbers for each case of a reader's answer, and for a frame: one chain in the paper's order. Definitions and statements only.
+use Prim.Native.Nat.{ℕ}
+use mathlib.Core.Path.{_≡_}
+use mathlib.Core.List.{List, [], _∷_}
+use mathlib.Core.Bool.{Bool, true, false, not}
+use lib.Dec.{ltb}
+use lib.ListN.{length}
+use Rattle.whole.specs.Tests.{choose}
+use Rattle.frame.specs.declared.reader.Bad.{Bad}
+use Rattle.frame.specs.declared.reader.Bad.the-variants.{Length, Short, Opcode, Offset, CutOff}
+use Rattle.frame.specs.declared.reader.Place.{Place}
+use Rattle.frame.specs.declared.reader.Place.the-variants as place
+use Rattle.frame.specs.declared.reader.TlvAnswer.{TlvAnswer}
+use Rattle.frame.specs.declared.reader.TlvAnswer.the-variants as answer
+use Rattle.frame.specs.declared.reader.TlvTold.{TlvTold}
+use Rattle.frame.specs.Head.{isOam, lengthGood, pduOf, opcodeOf, offsetOf, startOf}
+use Rattle.frame.specs.Opcodes.{ruleOf, known}
+use Rattle.frame.specs.Tlvs.{walkFrom}
+use Rattle.frame.specs.Reader.{isCut, answerOf}
+
+abbrev pub numbers : ℕ → ℕ → ℕ → TlvTold
+numbers refusal drop value = record { refusal = refusal; drop = drop; value = value }
+
+unfoldable pub badOf : Bad → TlvTold
+badOf Length = numbers 1 0 0
+badOf Short = numbers 0 1 0
+badOf Opcode = numbers 0 3 0
+badOf Offset = numbers 0 4 0
+badOf CutOff = numbers 0 5 0
+
+unfoldable pub told : TlvAnswer → TlvTold
+told answer.Value = numbers 0 0 1
+told answer.NoSuch = numbers 0 0 0
+told (answer.Bad b) = badOf b
+
+abbrev pub isFound : Place → Bool
+isFound (place.Found start len) = true
+isFound (place.End at) = false
+isFound (place.Cut at) = false
+
+-- in the paper's order: 1, D3 for a service frame, D1, D3, D4, D5, then a value or none
+unfoldable pub numbersOf : List ℕ → ℕ → TlvTold
+numbersOf f kind =
+    choose (
+    (not (lengthGood f), numbers 1 0 0)
+    ∷ (not (isOam f), numbers 0 3 0)
+    ∷ (ltb (length (pduOf f)) 4, numbers 0 1 0)
+    ∷ (not (known (ruleOf (opcodeOf (pduOf f)) .handler)), numbers 0 3 0)
+    ∷ (ltb (offsetOf (pduOf f)) (ruleOf (opcodeOf (pduOf f)) .least), numbers 0 4 0)
+    ∷ (isCut (walkFrom 0 (startOf (pduOf f)) (pduOf f)), numbers 0 5 0)
+    ∷ (isFound (walkFrom kind (startOf (pduOf f)) (pduOf f)), numbers 0 0 1)
+    ∷ [])
+    (numbers 0 0 0)
+
+-- what is said of every frame, and of every answer
+pub record ReaderNumbers : Type 0 where
+  -- the staged search tells the numbers of the one chain
+  pub agree : (f : List ℕ) (kind : ℕ) → told (answerOf f kind) ≡ numbersOf f kind
+  -- no two answers are told alike
+  pub apart : (a b : TlvAnswer) → told a ≡ told b → a ≡ b
+  -- beside a refusal or a drop no value is told
+  pub bare : (b : Bad) → told (answer.Bad b) .value ≡ 0

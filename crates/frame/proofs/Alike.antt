@@ -1,7 +1,7 @@
 -- The statement of specs/Alike.antt. Assumes nothing.
 use Prim.Native.Nat.{ℕ, zero, suc, _+_, _-_, _≤_}
 use mathlib.Core.Path.{_≡_, refl, sym, ap, ap₂, _∙_}
-use mathlib.Core.Bool.{Bool, true, false, cond, not}
+use mathlib.Core.Bool.{true, false}
 use mathlib.Core.List.{List, [], _∷_}
 use mathlib.Core.Logic.{⊎-elim}
 use native.Mathlib.Omega.{arith}
@@ -9,21 +9,16 @@ use lib.Dec.{eqb, ltb}
 use lib.ListN.{length, drop, length-drop}
 use Rattle.whole.specs.Tests.{choose}
 use Rattle.whole.specs.Lists.{part}
-use Rattle.whole.proofs.Tests.{known, choose-map}
+use Rattle.whole.proofs.Tests.{known}
 use Rattle.whole.proofs.Lists.{part-drop}
 use Rattle.frame.specs.declared.reader.Bad.{Bad}
-use Rattle.frame.specs.declared.reader.Bad.the-variants.{Length, Short, Opcode, Offset, CutOff}
-use Rattle.frame.specs.declared.reader.Head.{Head}
-use Rattle.frame.specs.declared.reader.Head.the-variants as head
 use Rattle.frame.specs.declared.reader.Place.{Place}
 use Rattle.frame.specs.declared.reader.Place.the-variants.{End, Found, Cut}
-use Rattle.frame.specs.declared.reader.Seek.{Seek}
-use Rattle.frame.specs.declared.reader.Seek.the-variants as seek
-use Rattle.frame.specs.Opcodes.{ruleOf, known as known-op}
-use Rattle.frame.specs.Head.{isOam, lengthGood, pduOf, opcodeOf, offsetOf, startOf}
+use Rattle.frame.specs.Head.{pduOf, startOf}
 use Rattle.frame.specs.Tlvs.{lengthOf, walk, walkFrom}
-use Rattle.frame.specs.Reader.{judge, judgePdu, whole, wanted, isCut, inFrame, seekAt, seekOf, partOf, valueOf, answerAt, answerOf}
+use Rattle.frame.specs.Reader.{whole, wanted, inFrame, partOf, valueOf, placeAt, placeOf, answerAt, answerOf}
 use Rattle.frame.specs.Alike.{Alike, ReadAlike}
+use Rattle.frame.proofs.Chain.{chained, through}
 
 module _ (f g : List ℕ) (a : Alike f g) where
   pdu-long : length (pduOf f) ≡ length (pduOf g)
@@ -32,41 +27,8 @@ module _ (f g : List ℕ) (a : Alike f g) where
   start : startOf (pduOf f) ≡ startOf (pduOf g)
   start = ap (λ (n : ℕ). 4 + n) (a .offset)
 
-  judged : judge f ≡ judge g
-  unfolding judge judgePdu choose
-  judged = rw (a .long, a .ether, pdu-long, a .opcode, a .offset)
-
   walked : (kind : ℕ) → walkFrom kind (startOf (pduOf f)) (pduOf f) ≡ walkFrom kind (startOf (pduOf g)) (pduOf g)
   walked kind = ap₂ (λ (xs : List ℕ) (n : ℕ). walk kind 0 xs n) (a .tlvs) start
-
--- ── the search as one chain, and what of it is read ──
-
--- the reasons in order, as the reader finds them, and what the TLVs say behind them
-chained : {A : Type 0} → (Bad → A) → List ℕ → A → A
-chained bad f last =
-    choose ((not (lengthGood f), bad Length) ∷ (not (isOam f), bad Opcode) ∷ [])
-    (choose
-    ((ltb (length (pduOf f)) 4, bad Short)
-    ∷ (not (known-op (ruleOf (opcodeOf (pduOf f)) .handler)), bad Opcode)
-    ∷ (ltb (offsetOf (pduOf f)) (ruleOf (opcodeOf (pduOf f)) .least), bad Offset)
-    ∷ [])
-    last)
-
--- anything told of a search is told of the chain's reasons and of its last word
-through : {A : Type 0} (t : Seek → A) (f : List ℕ) (kind : ℕ)
-    → t (seekOf f kind) ≡ chained (λ b. t (seek.Bad b)) f (t (inFrame (whole (walkFrom 0 (startOf (pduOf f)) (pduOf f)) (walkFrom kind (startOf (pduOf f)) (pduOf f)))))
-unfolding seekOf judge judgePdu chained choose
-through {A} t f kind =
-    let p = pduOf f in
-    let u : Head → A = λ h. t (inFrame (seekAt kind p h)) in
-    choose-map u ((not (lengthGood f), head.Bad Length) ∷ (not (isOam f), head.Bad Opcode) ∷ []) (judgePdu p)
-    ∙ ap (λ (x : A). cond (not (lengthGood f)) (t (seek.Bad Length)) (cond (not (isOam f)) (t (seek.Bad Opcode)) x))
-    (choose-map u
-    ((ltb (length p) 4, head.Bad Short)
-    ∷ (not (known-op (ruleOf (opcodeOf p) .handler)), head.Bad Opcode)
-    ∷ (ltb (offsetOf p) (ruleOf (opcodeOf p) .least), head.Bad Offset)
-    ∷ [])
-    (head.Tlvs (startOf p)))
 
 -- a value that the walk finds stands behind the place where it began
 beyond : (kind left : ℕ) (xs : List ℕ) (at s l : ℕ) → walk kind left xs at ≡ Found s l → at ≤ s
@@ -123,6 +85,13 @@ module _ (f g : List ℕ) (a : Alike f g) where
       ∙ chained-alike _ _ _ (ap₂ (λ (x y : Place). answerAt (inFrame (whole x y))) (walked f g a 0) (walked f g a kind))
       ∙ sym (through answerAt g kind)
 
+  places : (p : ℕ × ℕ) (kind : ℕ) → placeOf p f kind ≡ placeOf p g kind
+  unfolding placeOf
+  places p kind =
+      through (placeAt p) f kind
+      ∙ chained-alike _ _ _ (ap₂ (λ (x y : Place). placeAt p (inFrame (whole x y))) (walked f g a 0) (walked f g a kind))
+      ∙ sym (through (placeAt p) g kind)
+
   values : (kind : ℕ) → valueOf f kind ≡ valueOf g kind
   unfolding valueOf
   values kind =
@@ -132,4 +101,4 @@ module _ (f g : List ℕ) (a : Alike f g) where
       ∙ sym (through (partOf g) g kind)
 
 pub read-alike : ReadAlike
-read-alike = record { answers = λ f g a kind. answers f g a kind; values = λ f g a kind. values f g a kind }
+read-alike = record { answers = λ f g a kind. answers f g a kind; values = λ f g a kind. values f g a kind; places = λ f g a p kind. places f g a p kind }

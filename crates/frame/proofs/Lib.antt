@@ -3,6 +3,7 @@ pub mod Judged
 pub mod Steps
 pub mod Agrees
 pub mod Seeks
+pub mod Chain
 pub mod Numbers
 pub mod Alike
 pub mod One

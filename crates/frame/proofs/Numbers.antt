@@ -1,26 +1,24 @@
 -- The statements of specs/Told.antt. Assumes nothing.
 use Prim.Native.Nat.{ℕ}
 use mathlib.Core.Path.{_≡_, refl, sym, ap, _∙_}
-use mathlib.Core.Bool.{Bool, true, false, not, cond}
+use mathlib.Core.Bool.{cond}
 use mathlib.Core.List.{List, [], _∷_}
-use lib.Dec.{ltb, eqb}
-use lib.ListN.{length}
+use lib.Dec.{eqb}
 use Rattle.whole.specs.Tests.{choose}
-use Rattle.whole.proofs.Tests.{choose-map}
 use Rattle.frame.specs.declared.reader.Bad.{Bad}
 use Rattle.frame.specs.declared.reader.Bad.the-variants.{Length, Short, Opcode, Offset, CutOff}
-use Rattle.frame.specs.declared.reader.Head.{Head}
-use Rattle.frame.specs.declared.reader.Head.the-variants as head
 use Rattle.frame.specs.declared.reader.Place.{Place}
 use Rattle.frame.specs.declared.reader.Place.the-variants as place
+use Rattle.frame.specs.declared.reader.Seek.{Seek}
+use Rattle.frame.specs.declared.reader.Seek.the-variants as seek
 use Rattle.frame.specs.declared.reader.TlvAnswer.{TlvAnswer}
 use Rattle.frame.specs.declared.reader.TlvAnswer.the-variants as answer
 use Rattle.frame.specs.declared.reader.TlvTold.{TlvTold}
-use Rattle.frame.specs.Head.{isOam, lengthGood, pduOf, opcodeOf, offsetOf, startOf}
-use Rattle.frame.specs.Opcodes.{ruleOf, known}
+use Rattle.frame.specs.Head.{pduOf, startOf}
 use Rattle.frame.specs.Tlvs.{walkFrom}
-use Rattle.frame.specs.Reader.{judge, judgePdu, isCut, wanted, whole, inFrame, seekAt, seekOf, answerAt, answerOf}
+use Rattle.frame.specs.Reader.{isCut, wanted, whole, inFrame, answerAt, answerOf}
 use Rattle.frame.specs.Told.{numbers, badOf, told, isFound, numbersOf, ReaderNumbers}
+use Rattle.frame.proofs.Chain.{chained, through}
 
 -- what is told of a place of the PDU, in numbers
 found-told : (w : Place) → told (answerAt (inFrame (wanted w))) ≡ cond (isFound w) (numbers 0 0 1) (numbers 0 0 0)
@@ -35,26 +33,13 @@ whole-told (place.Cut at) w = refl
 whole-told (place.End at) w = found-told w
 whole-told (place.Found start len) w = found-told w
 
--- what is told of a head
-headTold : ℕ → List ℕ → Head → TlvTold
-headTold kind p h = told (answerAt (inFrame (seekAt kind p h)))
-
 pub agree : (f : List ℕ) (kind : ℕ) → told (answerOf f kind) ≡ numbersOf f kind
-unfolding answerOf seekOf judge judgePdu numbersOf choose told badOf headTold
+unfolding answerOf numbersOf chained choose told badOf
 agree f kind =
     let p = pduOf f in
-    choose-map (headTold kind p) ((not (lengthGood f), head.Bad Length) ∷ (not (isOam f), head.Bad Opcode) ∷ []) (judgePdu p)
-    ∙ ap (λ (t : TlvTold). cond (not (lengthGood f)) (numbers 1 0 0) (cond (not (isOam f)) (numbers 0 3 0) t))
-    (choose-map (headTold kind p)
-    ((ltb (length p) 4, head.Bad Short)
-    ∷ (not (known (ruleOf (opcodeOf p) .handler)), head.Bad Opcode)
-    ∷ (ltb (offsetOf p) (ruleOf (opcodeOf p) .least), head.Bad Offset)
-    ∷ [])
-    (head.Tlvs (startOf p))
-    ∙ ap (λ (t : TlvTold). cond (ltb (length p) 4) (numbers 0 1 0)
-    (cond (not (known (ruleOf (opcodeOf p) .handler))) (numbers 0 3 0)
-    (cond (ltb (offsetOf p) (ruleOf (opcodeOf p) .least)) (numbers 0 4 0) t)))
-    (whole-told (walkFrom 0 (startOf p) p) (walkFrom kind (startOf p) p)))
+    let tell : Seek → TlvTold = λ s. told (answerAt s) in
+    through tell f kind
+    ∙ ap (λ (t : TlvTold). chained (λ b. tell (seek.Bad b)) f t) (whole-told (walkFrom 0 (startOf p) p) (walkFrom kind (startOf p) p))
 
 -- the answer that is meant by its numbers
 back : TlvTold → TlvAnswer

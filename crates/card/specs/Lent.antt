@@ -1,5 +1,4 @@
 -- A session that is lent: the same rule, told in the paper's numbers. Definitions and statements only.
-use Prim.Native.Nat.{ℕ}
 use mathlib.Core.Path.{_≡_}
 use mathlib.Core.List.{List, [], _∷_, map}
 use Rattle.loss.specs.declared.Readings.{Readings}
@@ -9,10 +8,6 @@ use Rattle.loss.specs.Session.{afterReading}
 use Rattle.loss.specs.Told.{told, numbersOf}
 use Rattle.account.specs.Demand3.{answers, leaves}
 use Rattle.card.specs.declared.Answered.{Answered}
-
--- TxFCf, RxFCf, TxFCb and our received count, in the paper's order
-abbrev pub readings : ℕ → ℕ → ℕ → ℕ → Readings
-readings txf rxf txb ours = record { txf = txf; rxf = rxf; txb = txb; ours = ours }
 
 -- one more reading, in numbers
 abbrev pub readingOf : LossSession → Readings → Answered

@@ -1,5 +1,6 @@
 // The sheet side of the card: a loss session in fixed memory, lent and updated where it lies, from four readings. Rule 7, last sentence.
-ghost use Rattle.card.specs.Lent.{readings, readingOf, Lent};
+ghost use Rattle.loss.specs.Session.{readings};
+ghost use Rattle.card.specs.Lent.{readingOf, Lent};
 ghost use mathlib.Core.Path.{_≡_};
 use loss::LossSession;
 use loss::LossTold;

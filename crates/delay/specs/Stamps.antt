@@ -14,6 +14,9 @@ good s = leb (s .nanoseconds) 999999999
 abbrev pub given : Stamp → Bool
 given s = not (eqb (s .seconds) 0 && eqb (s .nanoseconds) 0)
 
+abbrev pub notGiven : Stamp
+notGiven = record { seconds = 0; nanoseconds = 0 }
+
 -- a stamp as one number of nanoseconds
 abbrev pub instant : Stamp → ℕ
 instant s = s .seconds * 1000000000 + s .nanoseconds

@@ -5,14 +5,15 @@ use native.Mathlib.Omega.{arith}
 use Rattle.whole.specs.Tests.{choose}
 use Rattle.whole.specs.Lists.{every}
 use Rattle.loss.specs.Growth.{growth}
-use Rattle.loss.specs.Session.{wellFormed, afterReading}
+use Rattle.loss.specs.Session.{readings, wellFormed, afterReading}
 use Rattle.loss.specs.Told.{told}
 use Rattle.account.specs.Demand3.{answers}
 use Rattle.delay.specs.Told.{numbersOf}
-use Rattle.edges.specs.Table.{loses, reading, Edges}
+use Rattle.edges.specs.Table.{loses, fourMore, oneLess, Edges}
+use Rattle.edges.proofs.Offsets.{four-more, one-less}
 use lib.IntN.{pos, negsuc}
 
-still-row : (still : ℕ) → still < 2 ^ 32 → loses (reading 0 0 still 0) (reading 0 0 still 4294967295) (pos 0) (negsuc 4294967294)
+still-row : (still : ℕ) → still < 2 ^ 32 → loses (readings 0 0 still 0) (readings 0 0 still 4294967295) (pos 0) (negsuc 4294967294)
 unfolding answers afterReading choose wellFormed told
 still-row still h =
     let none : growth (2 ^ 32) still still ≡ 0 = omega arith in
@@ -20,4 +21,4 @@ still-row still h =
 
 pub edges : Edges
 unfolding answers afterReading choose wellFormed told numbersOf every
-edges = (refl, (refl, (refl, (still-row, (refl, (refl, (refl, tt)))))))
+edges = (λ rest. (refl, refl), (λ rest. (refl, refl), (refl, (refl, (refl, (still-row, (refl, (refl, (refl, (four-more, (one-less, tt)))))))))))

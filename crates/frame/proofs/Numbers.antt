@@ -1,10 +1,13 @@
 -- The statements of specs/Told.antt. Assumes nothing.
-use Prim.Native.Nat.{ℕ}
+use Prim.Native.Nat.{ℕ, zero, suc, _+_}
 use mathlib.Core.Path.{_≡_, refl, sym, ap, _∙_}
-use mathlib.Core.Bool.{cond}
+use mathlib.Core.Bool.{Bool, true, false, cond}
+use mathlib.Core.Logic.{⊎-elim}
 use mathlib.Core.List.{List, [], _∷_}
-use lib.Dec.{eqb}
+use lib.Dec.{eqb, ltb}
+use lib.ListN.{length, drop}
 use Rattle.whole.specs.Tests.{choose}
+use Rattle.whole.proofs.Tests.{known}
 use Rattle.frame.specs.declared.reader.Bad.{Bad}
 use Rattle.frame.specs.declared.reader.Bad.the-variants.{Length, Short, Opcode, Offset, CutOff}
 use Rattle.frame.specs.declared.reader.Place.{Place}
@@ -15,7 +18,7 @@ use Rattle.frame.specs.declared.reader.TlvAnswer.{TlvAnswer}
 use Rattle.frame.specs.declared.reader.TlvAnswer.the-variants as answer
 use Rattle.frame.specs.declared.reader.TlvTold.{TlvTold}
 use Rattle.frame.specs.Head.{pduOf, startOf}
-use Rattle.frame.specs.Tlvs.{walkFrom}
+use Rattle.frame.specs.Tlvs.{lengthOf, walk, walkFrom}
 use Rattle.frame.specs.Reader.{isCut, wanted, whole, inFrame, answerAt, answerOf}
 use Rattle.frame.specs.Told.{numbers, badOf, told, isFound, numbersOf, ReaderNumbers}
 use Rattle.frame.proofs.Chain.{chained, through}
@@ -72,5 +75,40 @@ bare Opcode = refl
 bare Offset = refl
 bare CutOff = refl
 
+-- ── type 0 ──
+
+-- a walk for type 0 stops at an end or a cut
+not-found : (left : ℕ) (xs : List ℕ) (at : ℕ) → isFound (walk 0 left xs at) ≡ false
+unfolding walk
+not-found left [] at = refl
+not-found (suc left) (x ∷ xs) at = not-found left xs (at + 1)
+not-found zero (t ∷ xs) at =
+    ⊎-elim
+    (λ (a : eqb t 0 ≡ true). rw a)
+    (λ (a : eqb t 0 ≡ false).
+    ⊎-elim
+    (λ (b : ltb (length xs) (2 + lengthOf xs) ≡ true). rw (a, b))
+    (λ (b : ltb (length xs) (2 + lengthOf xs) ≡ false). rw (a, b) (not-found (2 + lengthOf xs) xs (at + 1)))
+    (known (ltb (length xs) (2 + lengthOf xs))))
+    (known (eqb t 0))
+
+-- so no number of the chain tells a value
+no-value : (a b c d e g : Bool) → choose ((a, numbers 1 0 0) ∷ (b, numbers 0 3 0) ∷ (c, numbers 0 1 0) ∷ (d, numbers 0 3 0) ∷ (e, numbers 0 4 0) ∷ (g, numbers 0 5 0) ∷ (false, numbers 0 0 1) ∷ []) (numbers 0 0 0) .value ≡ 0
+unfolding choose
+no-value true b c d e g = refl
+no-value false true c d e g = refl
+no-value false false true d e g = refl
+no-value false false false true e g = refl
+no-value false false false false true g = refl
+no-value false false false false false true = refl
+no-value false false false false false false = refl
+
+never : (f : List ℕ) → told (answerOf f 0) .value ≡ 0
+unfolding numbersOf
+never f =
+    let p = pduOf f in
+    ap (λ (t : TlvTold). t .value) (agree f 0)
+    ∙ rw (not-found 0 (drop (startOf p) p) (startOf p)) (no-value _ _ _ _ _ _)
+
 pub reader-numbers : ReaderNumbers
-reader-numbers = record { agree = agree; apart = λ a b e. sym (back-told a) ∙ ap back e ∙ back-told b; bare = bare }
+reader-numbers = record { agree = agree; apart = λ a b e. sym (back-told a) ∙ ap back e ∙ back-told b; never = never; bare = bare }

@@ -3,8 +3,8 @@
 -- Definitions only.
 use Prim.Native.Nat.{ℕ, _+_, _/_, _%_}
 use mathlib.Core.List.{List}
-use mathlib.Core.Bool.{Bool, _&&_}
-use lib.Dec.{eqb, leb}
+use mathlib.Core.Bool.{Bool, cond, _&&_}
+use lib.Dec.{eqb, ltb, leb}
 use lib.ListN.{length, getD, drop}
 use Rattle.whole.specs.Lists.{part}
 use Rattle.octets.specs.Numbers.{number, bigEndian}
@@ -34,6 +34,14 @@ headLength = 14
 
 abbrev pub pduOf : List ℕ → List ℕ
 pduOf f = drop headLength f
+
+-- where it stands: in the frame's own memory; of a frame shorter than its head, at the frame's start
+abbrev pub pduPlace : ℕ × ℕ → List ℕ → ℕ × ℕ
+pduPlace p f = cond (ltb (length f) headLength) p (p .0, headLength + p .1)
+
+-- a place of the PDU as a place of the frame
+abbrev pub behindHead : ℕ → ℕ
+behindHead at = headLength + at
 
 -- ── the PDU ──
 

@@ -4,7 +4,6 @@ use Prim.Native.Nat.{ℕ}
 use mathlib.Core.Path.{_≡_}
 use mathlib.Core.List.{List, [], _∷_}
 use mathlib.Core.Bool.{Bool, true, false, not}
-use mathlib.Core.Logic.{_↔_}
 use lib.Dec.{eqb}
 use Rattle.whole.specs.Tests.{choose}
 use Rattle.whole.specs.Lists.{absent}

@@ -1,11 +1,10 @@
 -- What a frame reads as, asked for a TLV type. The paper, "What is in a PDU": the reader takes a frame alone and tests 1, D1, D3, D4 and D5,
 -- in this order; a service frame is D3. Definitions and statements only.
 use Prim.Native.Nat.{ℕ, _+_, _≤_}
-use mathlib.Core.Path.{_≡_}
 use mathlib.Core.List.{List, [], _∷_}
 use mathlib.Core.Bool.{Bool, true, false, cond, not}
-use lib.Dec.{ltb, leb}
-use lib.ListN.{length, drop}
+use lib.Dec.{ltb}
+use lib.ListN.{length}
 use Rattle.whole.specs.Tests.{choose}
 use Rattle.whole.specs.Lists.{part}
 use Rattle.frame.specs.declared.reader.Bad.{Bad}
@@ -18,7 +17,7 @@ use Rattle.frame.specs.declared.reader.Seek.{Seek}
 use Rattle.frame.specs.declared.reader.Seek.the-variants as seek
 use Rattle.frame.specs.declared.reader.TlvAnswer.{TlvAnswer}
 use Rattle.frame.specs.declared.reader.TlvAnswer.the-variants as answer
-use Rattle.frame.specs.Head.{etherTypeOf, isOam, lengthGood, headLength, pduOf, opcodeOf, offsetOf, startOf}
+use Rattle.frame.specs.Head.{isOam, lengthGood, behindHead, pduOf, opcodeOf, offsetOf, startOf}
 use Rattle.frame.specs.Opcodes.{ruleOf, known}
 use Rattle.frame.specs.Tlvs.{walkFrom}
 
@@ -63,9 +62,9 @@ abbrev pub seekAt : ℕ → List ℕ → Head → Seek
 seekAt kind p (head.Bad b) = seek.Bad b
 seekAt kind p (head.Tlvs start) = whole (walkFrom 0 start p) (walkFrom kind start p)
 
--- a place of the PDU as a place of the frame
+-- what is found in the PDU, by its place in the frame
 abbrev pub inFrame : Seek → Seek
-inFrame (seek.Value start len) = seek.Value (headLength + start) len
+inFrame (seek.Value start len) = seek.Value (behindHead start) len
 inFrame seek.NoSuch = seek.NoSuch
 inFrame (seek.Bad b) = seek.Bad b
 
@@ -90,7 +89,7 @@ partOf f (seek.Bad b) = []
 unfoldable pub valueOf : List ℕ → ℕ → List ℕ
 valueOf f kind = partOf f (seekOf f kind)
 
--- where they stand: in the frame's own memory, at the value's start; an empty part stands at the frame's start
+-- where they stand: in the frame's own memory, at the value's start; where there is no such TLV or the frame is bad, at the frame's start
 abbrev pub placeAt : ℕ × ℕ → Seek → ℕ × ℕ
 placeAt p (seek.Value start len) = (p .0, start + p .1)
 placeAt p seek.NoSuch = p

@@ -58,5 +58,7 @@ pub record ReaderNumbers : Type 0 where
   pub agree : (f : List ℕ) (kind : ℕ) → told (answerOf f kind) ≡ numbersOf f kind
   -- no two answers are told alike
   pub apart : (a b : TlvAnswer) → told a ≡ told b → a ≡ b
+  -- type 0 is never a value
+  pub never : (f : List ℕ) → told (answerOf f 0) .value ≡ 0
   -- beside a refusal or a drop no value is told
   pub bare : (b : Bad) → told (answer.Bad b) .value ≡ 0

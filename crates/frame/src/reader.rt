@@ -1,11 +1,10 @@
 // The reader: asked for a TLV type, the value of the first such TLV as that part of the caller's frame.
 ghost use mathlib.Core.Path.{_≡_};
-ghost use Prim.Native.Nat.{_+_, _≤_};
-ghost use lib.ListN.{length};
 ghost use denote.Ref.{ptr};
 ghost use Rattle.frame.specs.Tlvs.{walkFrom, Inside};
 ghost use Rattle.frame.specs.Told.{badOf, told, numbersOf};
 ghost use Rattle.frame.specs.Reader.{judgePdu, judge, isCut, whole, seekOf, Within, valueOf, placeOf, answerOf};
+use crate::head::HEAD_LENGTH;
 use crate::opcode::is_known;
 use crate::opcode::rule_of;
 use octets::numbers::octet;
@@ -61,7 +60,7 @@ pub struct TlvTold {
 }
 
 // Walks over the TLVs of a PDU from a place on.
-pub fn walk(pdu: &[u8], kind: u8, start: usize) -> Place
+fn walk(pdu: &[u8], kind: u8, start: usize) -> Place
     ensures { λ r. ⌜ (r ≡ walkFrom kind start (now (pdu .entry))) × Inside (now (pdu .entry)) r ⌝ }
 {
     let mut at = start;
@@ -114,7 +113,7 @@ fn judge_pdu(pdu: &[u8]) -> Head
 fn judge_frame(frame: &[u8]) -> Head
     ensures { λ r. ⌜ r ≡ judge (now (frame .entry)) ⌝ }
 {
-    if frame.len() < 14 {
+    if frame.len() < HEAD_LENGTH {
         return Head::Bad(Bad::Length);
     }
     if 1514 < frame.len() {
@@ -123,7 +122,7 @@ fn judge_frame(frame: &[u8]) -> Head
     if read_big(frame, 12, 2) != 0x8902 {
         return Head::Bad(Bad::Opcode);
     }
-    judge_pdu(&frame[14..])
+    judge_pdu(&frame[HEAD_LENGTH..])
 }
 
 // Whether a walk stopped at a cut.
@@ -162,11 +161,11 @@ fn seek_frame(frame: &[u8], kind: u8) -> Seek
         }
         Head::Tlvs(start) => start,
     };
-    match seek_tlvs(&frame[14..], kind, start) {
+    match seek_tlvs(&frame[HEAD_LENGTH..], kind, start) {
         Seek::Bad(b) => Seek::Bad(b),
         Seek::NoSuch => Seek::NoSuch,
         Seek::Value { start: at, len } => Seek::Value {
-            start: 14 + at,
+            start: HEAD_LENGTH + at,
             len,
         },
     }

@@ -15,6 +15,10 @@ use Rattle.loss.specs.declared.LossAnswer.the-variants.{NotWellFormed, F
 use Rattle.loss.specs.declared.Updated.{Updated}
 use Rattle.loss.specs.Growth.{lossBetween}
 
+-- TxFCf, RxFCf, TxFCb and our received count, in the paper's order
+abbrev pub readings : ℕ → ℕ → ℕ → ℕ → Readings
+readings txf rxf txb ours = record { txf = txf; rxf = rxf; txb = txb; ours = ours }
+
 -- the two sides of a link: what the peer sent and we received, and what we sent and the peer received
 pub data Side : Type 0 where
   near : Side

@@ -2,8 +2,8 @@
 -- for data and test checks. The standard, figures 9.3-3 and 9.3-4: the value of a data TLV is free; that of a test TLV begins with its
 -- pattern type, and type 0 is a run of zeros without check sequence. Definitions only.
 use Prim.Native.Nat.{ℕ}
-use mathlib.Core.List.{List, [], _∷_}
-use mathlib.Core.Bool.{Bool, false, _&&_, cond}
+use mathlib.Core.List.{List}
+use mathlib.Core.Bool.{Bool, _&&_, cond}
 use lib.Dec.{eqb, ltb}
 use lib.ListN.{length}
 use Rattle.whole.specs.Lists.{every, same}

@@ -1,7 +1,6 @@
 // What the value of a TLV holds: the octets of a data TLV, the zeros of a test TLV. The value is the part of the frame that the reader hands
 // back; nothing is copied.
 ghost use mathlib.Core.Path.{_≡_};
-ghost use lib.Dec.{eqb};
 ghost use Rattle.whole.specs.Lists.{every};
 ghost use Rattle.values.specs.Values.{isZero, zeroPattern, outcomeOf, sameData, zeroTest};
 ghost use Rattle.values.specs.Told.{told, sameNumbers, zeroNumbers};

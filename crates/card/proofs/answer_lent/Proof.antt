@@ -41,7 +41,8 @@ use denote.Exit.{yes}
 use Rattle.loss.specs.declared.LossSession.{LossSession}
 use Rattle.card.specs.declared.Answered.{Answered}
 use Rattle.loss.specs.declared.LossTold.{LossTold}
-use Rattle.card.specs.Lent.{readingOf, readings}
+use Rattle.loss.specs.Session.{readings}
+use Rattle.card.specs.Lent.{readingOf}
 use Rattle.loss.proofs.LossSession as S
 use Rattle.loss.proofs.LossSession.Laws as S′
 use Rattle.card.proofs.Answered as U

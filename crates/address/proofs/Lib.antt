@@ -1,0 +1,2 @@
+pub mod Multicasts
+pub mod One

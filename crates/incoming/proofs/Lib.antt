@@ -1,0 +1,4 @@
+pub mod Goods
+pub mod Numbers
+pub mod Shape
+pub mod One

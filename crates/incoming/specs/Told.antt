@@ -1,0 +1,69 @@
+-- The paper's numbers for each case of an answer on a message, and for a frame. Definitions and statements only.
+use Prim.Native.Nat.{ℕ}
+use mathlib.Core.Path.{_≡_}
+use mathlib.Core.Bool.{Bool, true, _&&_, not}
+use mathlib.Core.List.{List, [], _∷_}
+use lib.Dec.{eqb}
+use Rattle.whole.specs.Tests.{choose}
+use Rattle.frame.specs.declared.opcode.Handler.{Handler}
+use Rattle.frame.specs.declared.opcode.Handler.the-variants.{Nobody, ReaderOnly, Continuity, Loopback, Alarm, Lock, LossReply, LossRequest, DelayReply, DelayRequest}
+use Rattle.frame.specs.declared.reader.TlvTold.{TlvTold}
+use Rattle.frame.specs.Head.{pduOf, opcodeOf, flagsOf}
+use Rattle.frame.specs.Opcodes.{ruleOf, known}
+use Rattle.frame.specs.Told as Reader
+use Rattle.incoming.specs.declared.MessageAnswer.{MessageAnswer}
+use Rattle.incoming.specs.declared.MessageAnswer.the-variants.{Message, PeriodCode, Bad}
+use Rattle.incoming.specs.declared.MessageTold.{MessageTold}
+use Rattle.incoming.specs.Good.{Good}
+use Rattle.incoming.specs.Message.{periodCode, codeGood, messageOf}
+
+abbrev pub numbers : ℕ → ℕ → ℕ → MessageTold
+numbers refusal drop opcode = record { refusal = refusal; drop = drop; opcode = opcode }
+
+-- the opcode of a handler's messages, as in the paper's table
+abbrev pub opcodeFor : Handler → ℕ
+opcodeFor Nobody = 0
+opcodeFor ReaderOnly = 2
+opcodeFor Continuity = 1
+opcodeFor Loopback = 3
+opcodeFor Alarm = 33
+opcodeFor Lock = 35
+opcodeFor LossReply = 42
+opcodeFor LossRequest = 43
+opcodeFor DelayReply = 46
+opcodeFor DelayRequest = 47
+
+unfoldable pub told : MessageAnswer → MessageTold
+told (Message handler) = numbers 0 0 (opcodeFor handler)
+told PeriodCode = numbers 0 7 0
+told (Bad b) = numbers (Reader.badOf b .refusal) (Reader.badOf b .drop) 0
+
+-- no reason was told
+abbrev pub isGood : TlvTold → Bool
+isGood t = eqb (t .refusal) 0 && eqb (t .drop) 0
+
+-- the reader's numbers, then D7, then the opcode
+abbrev pub behind : TlvTold → ℕ → ℕ → MessageTold
+behind t opcode flags =
+    choose (
+    (not (isGood t), numbers (t .refusal) (t .drop) 0)
+    ∷ (not (codeGood (ruleOf opcode .handler) (periodCode flags)), numbers 0 7 0)
+    ∷ [])
+    (numbers 0 0 opcode)
+
+abbrev pub numbersOf : List ℕ → MessageTold
+numbersOf f = behind (Reader.numbersOf f 0) (opcodeOf (pduOf f)) (flagsOf (pduOf f))
+
+-- the opcode of a good frame; 0 of a bad one
+abbrev pub goodOpcode : List ℕ → ℕ
+goodOpcode f = numbersOf f .opcode
+
+-- what is said of every frame, and of every answer
+pub record MessageNumbers : Type 0 where
+  -- the table and the opcodes of handlers agree
+  pub back : (op : ℕ) → known (ruleOf op .handler) ≡ true → opcodeFor (ruleOf op .handler) ≡ op
+  pub agree : (f : List ℕ) → told (messageOf f) ≡ numbersOf f
+  -- an opcode is told of a good frame with a good period code, and of no other; it is the frame's
+  pub opcode : (f : List ℕ) → Good f → codeGood (ruleOf (opcodeOf (pduOf f)) .handler) (periodCode (flagsOf (pduOf f))) ≡ true → goodOpcode f ≡ opcodeOf (pduOf f)
+  pub only : (f : List ℕ) → (goodOpcode f ≡ 0 → ⊥)
+      → Good f × (goodOpcode f ≡ opcodeOf (pduOf f)) × (codeGood (ruleOf (opcodeOf (pduOf f)) .handler) (periodCode (flagsOf (pduOf f))) ≡ true)

@@ -1,0 +1,4 @@
+pub mod Framed
+pub mod Sent
+pub mod Kept
+pub mod Replies

@@ -1,0 +1,1 @@
+// That what is written reads back: statements and proofs, no code.

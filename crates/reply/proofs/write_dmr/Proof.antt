@@ -1,0 +1,80 @@
+-- `reply::write_dmr` meets its contract: the reply with opcode 46, and two stamps laid inside it.
+use mathlib.Core.Path.{_≡_}
+use native.Mathlib.Omega.{arith}
+use denote.Ref.{now}
+use lib.ListN.{length}
+use Rattle.reply.specs.Replies.{dmrOctets}
+use Rattle.reply.proofs.Laid.{dmr-laid, dmr-long}
+use Rattle.reply.proofs.Numbers.{cut-off, no-room, room}
+use borrow.Author.Needs.{needs}
+use Rattle.reply.proofs.write_dmr.Statement.{statement}
+use Rattle.reply.proofs.write_dmr.Tie as tie
+
+-- our address has six octets
+six : (c : tie.Start) → length (c .args .t3) ≡ 6
+six c = search needs
+
+add-if1 : tie.Need-add-if1
+add-if1 c = search needs
+
+returns : tie.Need-returns
+returns c = let a = c .before .before .before .args in
+    cut-off 32 (now (a .request)) (dmrOctets (a .t3) (a .receive) (a .transmit) (now (a .request))) (now (a .into)) (c .if1 .taken)
+
+returns-2 : tie.Need-returns-2
+returns-2 c = let s = c .before .before .before .before in
+    let a = s .args in
+    let whole = c .before .if1 .left in
+    no-room 32 (now (a .request)) (dmrOctets (a .t3) (a .receive) (a .transmit) (now (a .request))) (now (a .into)) whole (dmr-long (a .t3) (now (a .request)) (six s) (a .receive) (a .transmit) (omega (arith, whole))) (c .if2 .taken)
+
+slice-aggregate-write-reply : tie.Need-slice-aggregate-write-reply
+slice-aggregate-write-reply c = search needs
+
+write-reply-requires : tie.Need-write-reply-requires
+write-reply-requires c κs = search needs
+
+add-write-stamp : tie.Need-add-write-stamp
+add-write-stamp c = search needs
+
+write-stamp-requires : tie.Need-write-stamp-requires
+write-stamp-requires c κs = search needs
+
+add-write-stamp-2 : tie.Need-add-write-stamp-2
+add-write-stamp-2 c = search needs
+
+write-stamp-requires-2 : tie.Need-write-stamp-requires-2
+write-stamp-requires-2 c κs = search needs
+
+same-length : tie.Need-same-length
+same-length c = search needs
+
+returns-3 : tie.Need-returns-3
+returns-3 c = let second = c .before .before in
+    let one = c .before .before .before .before .before .before in
+    let reply = c .before .before .before .before .before .before .before .before .before .before in
+    let s = c .before .before .before .before .before .before .before .before .before .before .before .before .before .before .before .before .before in
+    let a = s .args in
+    let whole = c .before .before .before .before .before .before .before .before .before .before .before .before .before .before .if1 .left in
+    let test = c .before .before .before .before .before .before .before .before .before .before .before .before .before .if2 in
+    let long = dmr-long (a .t3) (now (a .request)) (six s) (a .receive) (a .transmit) (omega (arith, whole)) in
+    let all = dmr-laid (a .t3) (now (a .request)) (now (a .into)) (six s) (test .left) (a .receive) (a .transmit) (omega (arith, whole))
+    (reply .write-reply .ensures)
+    (one .write-stamp .ensures)
+    (second .write-stamp2 .ensures) in
+    room 32 (now (a .request)) (dmrOctets (a .t3) (a .receive) (a .transmit) (now (a .request))) (now (a .into)) whole long (second .write-stamp2 .last .0) (test .left) all
+
+pub write-dmr-spec : {M : Type 1} → statement M
+write-dmr-spec =
+    tie.close
+    (tie.spec
+    add-if1
+    returns
+    returns-2
+    slice-aggregate-write-reply
+    write-reply-requires
+    add-write-stamp
+    write-stamp-requires
+    add-write-stamp-2
+    write-stamp-requires-2
+    same-length
+    returns-3)

@@ -1,0 +1,80 @@
+-- `reply::write_lmr` meets its contract: the reply with opcode 42, and two counts laid inside it.
+use mathlib.Core.Path.{_≡_}
+use native.Mathlib.Omega.{arith}
+use denote.Ref.{now}
+use lib.ListN.{length}
+use Rattle.reply.specs.Replies.{lmrOctets}
+use Rattle.reply.proofs.Laid.{lmr-laid, lmr-long}
+use Rattle.reply.proofs.Numbers.{cut-off, no-room, room}
+use borrow.Author.Needs.{needs}
+use Rattle.reply.proofs.write_lmr.Statement.{statement}
+use Rattle.reply.proofs.write_lmr.Tie as tie
+
+-- our address has six octets
+six : (c : tie.Start) → length (c .args .t3) ≡ 6
+six c = search needs
+
+add-if1 : tie.Need-add-if1
+add-if1 c = search needs
+
+returns : tie.Need-returns
+returns c = let a = c .before .before .before .args in
+    cut-off 12 (now (a .request)) (lmrOctets (a .t3) (a .received) (a .sent) (now (a .request))) (now (a .into)) (c .if1 .taken)
+
+returns-2 : tie.Need-returns-2
+returns-2 c = let s = c .before .before .before .before in
+    let a = s .args in
+    let whole = c .before .if1 .left in
+    no-room 12 (now (a .request)) (lmrOctets (a .t3) (a .received) (a .sent) (now (a .request))) (now (a .into)) whole (lmr-long (a .t3) (now (a .request)) (six s) (a .received) (a .sent) (omega (arith, whole))) (c .if2 .taken)
+
+slice-aggregate-write-reply : tie.Need-slice-aggregate-write-reply
+slice-aggregate-write-reply c = search needs
+
+write-reply-requires : tie.Need-write-reply-requires
+write-reply-requires c κs = search needs
+
+add-write-big : tie.Need-add-write-big
+add-write-big c = search needs
+
+write-big-requires : tie.Need-write-big-requires
+write-big-requires c κs = search needs
+
+add-write-big-2 : tie.Need-add-write-big-2
+add-write-big-2 c = search needs
+
+write-big-requires-2 : tie.Need-write-big-requires-2
+write-big-requires-2 c κs = search needs
+
+same-length : tie.Need-same-length
+same-length c = search needs
+
+returns-3 : tie.Need-returns-3
+returns-3 c = let second = c .before .before in
+    let one = c .before .before .before .before .before .before in
+    let reply = c .before .before .before .before .before .before .before .before .before .before in
+    let s = c .before .before .before .before .before .before .before .before .before .before .before .before .before .before .before .before .before in
+    let a = s .args in
+    let whole = c .before .before .before .before .before .before .before .before .before .before .before .before .before .before .if1 .left in
+    let test = c .before .before .before .before .before .before .before .before .before .before .before .before .before .if2 in
+    let long = lmr-long (a .t3) (now (a .request)) (six s) (a .received) (a .sent) (omega (arith, whole)) in
+    let all = lmr-laid (a .t3) (now (a .request)) (now (a .into)) (six s) (test .left) (a .received) (a .sent) (omega (arith, whole))
+    (reply .write-reply .ensures)
+    (one .write-big .ensures)
+    (second .write-big2 .ensures) in
+    room 12 (now (a .request)) (lmrOctets (a .t3) (a .received) (a .sent) (now (a .request))) (now (a .into)) whole long (second .write-big2 .last .0) (test .left) all
+
+pub write-lmr-spec : {M : Type 1} → statement M
+write-lmr-spec =
+    tie.close
+    (tie.spec
+    add-if1
+    returns
+    returns-2
+    slice-aggregate-write-reply
+    write-reply-requires
+    add-write-big
+    write-big-requires
+    add-write-big-2
+    write-big-requires-2
+    same-length
+    returns-3)

@@ -1,0 +1,121 @@
+// The replies that the box gives: the request with what differs laid over it. Each is made of what is given and of no state, and asks
+// nothing of its caller.
+ghost use mathlib.Core.Path.{_≡_};
+ghost use Prim.Native.Nat.{_≤_};
+ghost use lib.ListN.{length};
+ghost use Rattle.whole.specs.Lists.{laid};
+ghost use Rattle.frame.specs.Head.{behindHead};
+ghost use Rattle.reply.specs.Replies.{replyOctets, lbrOctets, lmrOctets, dmrOctets};
+ghost use Rattle.reply.specs.Replied.{repliedOf, leftOf, told, numbersOf};
+use delay::Stamp;
+use frame::head::HEAD_LENGTH;
+use message::parts::write_stamp;
+use octets::numbers::write_big;
+use octets::parts::copy_octets;
+
+// What writing a reply is answered.
+pub enum Replied {
+    // D5: the request ends before its fixed part does. Never given to a frame that was judged before.
+    CutOff,
+    // Refusal 3: the buffer is shorter than the reply.
+    NoRoom,
+    // The reply stands in the buffer's first octets, so many.
+    Octets(usize),
+}
+
+// An answer in the paper's numbers: the refusal, or 0; the drop, or 0; and the reply's length.
+#[repr(C)]
+pub struct RepliedTold {
+    pub refusal: u32,
+    pub drop: u32,
+    pub length: usize,
+}
+
+// Writes the request with its source as destination, our address as source, and another opcode.
+fn write_reply(into: &mut [u8], request: &[u8], own: &[u8], opcode: u8)
+    requires { ⌜ (behindHead 4 ≤ length (now request)) × (length (now request) ≤ length (now into)) × (length (now own) ≡ 6) ⌝ }
+    ensures { λ _. ⌜ now (into .exit) ≡ laid 0 (replyOctets (now (own .entry)) opcode (now (request .entry))) (now (into .entry)) ⌝ }
+{
+    copy_octets(into, 0, request);
+    copy_octets(into, 0, &request[6..12]);
+    copy_octets(into, 6, own);
+    into[HEAD_LENGTH + 1] = opcode;
+}
+
+// Writes the reply to a loopback request.
+pub fn write_lbr(into: &mut [u8], request: &[u8], own: [u8; 6]) -> Replied
+    ensures { λ r. ⌜ (r ≡ repliedOf 4 (now (request .entry)) (lbrOctets own (now (request .entry))) (now (into .entry))) × (told r ≡ numbersOf 4 (now (request .entry)) (lbrOctets own (now (request .entry))) (now (into .entry))) ⌝ }
+    ensures { λ _. ⌜ now (into .exit) ≡ leftOf 4 (now (request .entry)) (lbrOctets own (now (request .entry))) (now (into .entry)) ⌝ }
+{
+    if request.len() < HEAD_LENGTH + 8 {
+        return Replied::CutOff;
+    }
+    if into.len() < request.len() {
+        return Replied::NoRoom;
+    }
+    write_reply(into, request, &own, 2);
+    Replied::Octets(request.len())
+}
+
+// Writes the reply to a loss request: our received count in RxFCf, our sent count in TxFCb.
+pub fn write_lmr(into: &mut [u8], request: &[u8], own: [u8; 6], received: u32, sent: u32) -> Replied
+    ensures { λ r. ⌜ (r ≡ repliedOf 12 (now (request .entry)) (lmrOctets own received sent (now (request .entry))) (now (into .entry))) × (told r ≡ numbersOf 12 (now (request .entry)) (lmrOctets own received sent (now (request .entry))) (now (into .entry))) ⌝ }
+    ensures { λ _. ⌜ now (into .exit) ≡ leftOf 12 (now (request .entry)) (lmrOctets own received sent (now (request .entry))) (now (into .entry)) ⌝ }
+{
+    if request.len() < HEAD_LENGTH + 16 {
+        return Replied::CutOff;
+    }
+    if into.len() < request.len() {
+        return Replied::NoRoom;
+    }
+    write_reply(into, request, &own, 42);
+    write_big(into, HEAD_LENGTH + 8, 4, received);
+    write_big(into, HEAD_LENGTH + 12, 4, sent);
+    Replied::Octets(request.len())
+}
+
+// Writes the reply to a delay request: the receive stamp in RxTimeStampf, the transmit stamp in TxTimeStampb, given or not.
+pub fn write_dmr(
+    into: &mut [u8],
+    request: &[u8],
+    own: [u8; 6],
+    receive: Stamp,
+    transmit: Stamp,
+) -> Replied
+    ensures { λ r. ⌜ (r ≡ repliedOf 32 (now (request .entry)) (dmrOctets own receive transmit (now (request .entry))) (now (into .entry))) × (told r ≡ numbersOf 32 (now (request .entry)) (dmrOctets own receive transmit (now (request .entry))) (now (into .entry))) ⌝ }
+    ensures { λ _. ⌜ now (into .exit) ≡ leftOf 32 (now (request .entry)) (dmrOctets own receive transmit (now (request .entry))) (now (into .entry)) ⌝ }
+{
+    if request.len() < HEAD_LENGTH + 36 {
+        return Replied::CutOff;
+    }
+    if into.len() < request.len() {
+        return Replied::NoRoom;
+    }
+    write_reply(into, request, &own, 46);
+    write_stamp(into, HEAD_LENGTH + 12, receive);
+    write_stamp(into, HEAD_LENGTH + 20, transmit);
+    Replied::Octets(request.len())
+}
+
+// An answer in the paper's numbers.
+pub fn tell(answer: Replied) -> RepliedTold
+    ensures { λ r. ⌜ r ≡ told answer ⌝ }
+{
+    match answer {
+        Replied::CutOff => RepliedTold {
+            refusal: 0,
+            drop: 5,
+            length: 0,
+        },
+        Replied::NoRoom => RepliedTold {
+            refusal: 3,
+            drop: 0,
+            length: 0,
+        },
+        Replied::Octets(n) => RepliedTold {
+            refusal: 0,
+            drop: 0,
+            length: n,
+        },
+    }
+}

@@ -1,0 +1,42 @@
+-- What a box is set to, and where it lies. The paper, "Numbers". Definitions only.
+use Prim.Native.Nat.{ℕ}
+use mathlib.Core.List.{List}
+use lib.ListN.{getD}
+use Rattle.whole.specs.Lists.{part}
+
+-- how many peers a box has room for
+abbrev pub slots : ℕ
+slots = 8
+
+pub record Settings : Type 0 where
+  -- 0 to 7
+  pub level : ℕ
+  -- our own MEP ID
+  pub mep : ℕ
+  -- the period's code
+  pub period : ℕ
+  -- how many slots are used
+  pub count : ℕ
+  -- our own address, the loss peer's, and the MEG ID
+  pub own : List ℕ
+  pub losspeer : List ℕ
+  pub meg : List ℕ
+  -- the peers' MEP IDs, a slot for each that there is room for
+  pub ids : List ℕ
+
+-- an address of six octets among the names
+abbrev pub addressAt : ℕ → List ℕ → List ℕ
+addressAt at names = part at 6 names
+
+-- level, MEP ID, period code, peer count; then own address 6, loss peer 6, MEG ID 48; then the IDs
+abbrev pub settingsOf : List ℕ → List ℕ → List ℕ → Settings
+settingsOf set names ids = record {
+  level = getD set 0 0;
+  mep = getD set 1 0;
+  period = getD set 2 0;
+  count = getD set 3 0;
+  own = addressAt 0 names;
+  losspeer = addressAt 6 names;
+  meg = part 12 48 names;
+  ids = ids;
+}

@@ -1,0 +1,87 @@
+// What a box is set to, and when that is valid. The settings lie in three lent arrays; any content is a value, and what breaks a rule is
+// told and not assumed away.
+ghost use mathlib.Core.Path.{_≡_};
+ghost use lib.ListN.{getD};
+ghost use Rattle.whole.specs.Lists.{every};
+ghost use Rattle.settings.specs.Settings.{settingsOf, addressAt};
+ghost use Rattle.settings.specs.Valid.{numbersGood, addressesGood, idGood, peersGood, valid};
+use octets::parts::same_octets;
+use words::all_distinct;
+use words::all_within;
+
+// How many peers a box has room for. No other number says so.
+pub const PEERS: usize = 8;
+
+// Where the settings' words lie.
+pub const LEVEL: usize = 0;
+
+pub const MEP: usize = 1;
+
+pub const PERIOD: usize = 2;
+
+pub const COUNT: usize = 3;
+
+// Whether level, MEP ID and period code are within their bounds, and there is a peer.
+fn numbers_good(set: &[u32; 4]) -> bool
+    ensures { λ r. ⌜ r ≡ numbersGood (getD (now (set .entry)) 0 0) (getD (now (set .entry)) 1 0) (getD (now (set .entry)) 2 0) (getD (now (set .entry)) 3 0) ⌝ }
+{
+    (set[LEVEL] <= 7)
+        & ((1 <= set[MEP]) & (set[MEP] <= 8191))
+        & ((1 <= set[PERIOD]) & (set[PERIOD] <= 7))
+        & (1 <= set[COUNT])
+}
+
+// Whether both addresses are those of single stations, and differ.
+fn addresses_good(names: &[u8; 60]) -> bool
+    ensures { λ r. ⌜ r ≡ addressesGood (addressAt 0 (now (names .entry))) (addressAt 6 (now (names .entry))) ⌝ }
+{
+    let all: &[u8] = names;
+    let same = same_octets(&all[..6], &all[6..12]);
+    (names[0] % 2 == 0) & (names[6] % 2 == 0) & !same
+}
+
+// Whether a word may be a peer's MEP ID, beside our own.
+fn id_good(mep: u32, id: u32) -> bool
+    ensures { λ r. ⌜ r ≡ idGood mep id ⌝ }
+{
+    (1 <= id) & (id <= 8191) & (id != mep)
+}
+
+// Whether each of these words may be.
+fn ids_good(ids: &[u32], mep: u32) -> bool
+    ensures { λ r. ⌜ r ≡ every (idGood mep) (now (ids .entry)) ⌝ }
+{
+    let mut good = true;
+    let mut i: usize = 0;
+    while i < ids.len() {
+        good = good & id_good(mep, ids[i]);
+        i += 1;
+    }
+    good
+}
+
+// Whether the used slots come first, hold IDs that are no two alike and none our own, and the others hold 0.
+fn peers_good(ids: &[u32], count: u32, mep: u32) -> bool
+    ensures { λ r. ⌜ r ≡ peersGood count mep (now (ids .entry)) ⌝ }
+{
+    let used = count as usize;
+    if ids.len() < used {
+        return false;
+    }
+    let good = ids_good(&ids[..used], mep);
+    let apart = all_distinct(&ids[..used]);
+    good & apart & all_within(&ids[used..], 0)
+}
+
+// Whether the settings keep every rule of the paper on their values.
+pub fn is_valid(set: &[u32; 4], names: &[u8; 60], ids: &[u32; PEERS]) -> bool
+    ensures { λ r. ⌜ r ≡ valid (settingsOf (now (set .entry)) (now (names .entry)) (now (ids .entry))) ⌝ }
+{
+    if !numbers_good(set) {
+        return false;
+    }
+    if !addresses_good(names) {
+        return false;
+    }
+    peers_good(ids, set[COUNT], set[MEP])
+}

@@ -1,0 +1,4 @@
+pub mod Zeros
+pub mod Started
+pub mod Starts
+pub mod One

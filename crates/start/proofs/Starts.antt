@@ -1,0 +1,54 @@
+-- The statement of specs/Start.antt. Assumes nothing.
+use Prim.Native.Nat.{ℕ, zero, suc, _≤_, zero-le}
+use mathlib.Core.Path.{_≡_, refl, _∙_}
+use mathlib.Core.List.{List, [], _∷_}
+use native.Mathlib.Omega.{arith}
+use lib.ListN.{getD, replicate}
+use Rattle.whole.specs.Lists.{onFirst}
+use Rattle.whole.proofs.Loops.{changes}
+use Rattle.period.specs.Periods.{ticksOf, holdOf}
+use Rattle.period.proofs.Laws.{period-laws}
+use Rattle.settings.specs.Settings.{slots, Settings}
+use Rattle.settings.specs.Valid.{Valid}
+use Rattle.loss.proofs.Laws.{sessions}
+use Rattle.state.specs.WellFormed.{WellFormed}
+use Rattle.start.specs.Start.{startOf, zeroState, Starts}
+use Rattle.start.proofs.Started.{agree}
+
+-- zeros, at every place and past the end
+zeros-at : (n i : ℕ) → getD {A = ℕ} (replicate n 0) i 0 ≡ 0
+zeros-at zero i = refl
+zeros-at (suc n) zero = refl
+zeros-at (suc n) (suc i) = zeros-at n i
+
+-- the first words set to h, the others within it: all are
+first-within : (h n : ℕ) (l : List ℕ) → ((i : ℕ) → getD l i 0 ≤ h) → (i : ℕ) → getD (onFirst (λ x. h) n l) i 0 ≤ h
+unfolding onFirst
+first-within h zero l b i = b i
+first-within h (suc n) [] b i = b i
+first-within h (suc n) (x ∷ l) b zero = omega arith
+first-within h (suc n) (x ∷ l) b (suc i) = first-within h n l (λ j. b (suc j)) i
+
+well : (s : Settings) → Valid s → WellFormed (startOf s)
+well s v = record {
+  settings = v;
+  timers = first-within (holdOf (s .period)) (s .count) (replicate slots 0) (λ i. omega (arith, zeros-at slots i));
+  mismerge = zero-le;
+  unexpected-level = zero-le;
+  unexpected-mep = zero-le;
+  unexpected-period = zero-le;
+  ais = zero-le;
+  lck = zero-le;
+  some-tick = period-laws .some (s .period) .1 (v .some-period, v .period);
+  next = omega arith;
+  rdi = λ i. omega (arith, zeros-at slots i);
+  no-timer = λ i h. changes .rest (λ x. holdOf (s .period)) (s .count) (replicate slots 0) 0 i h ∙ zeros-at slots i;
+  no-rdi = λ i h. zeros-at slots i;
+  session = sessions .cleared-well;
+}
+
+zero-not : WellFormed zeroState → ⊥
+zero-not w = let h : 1 ≤ 0 = w .settings .some-period in omega arith
+
+pub starts : Starts
+starts = record { well = well; zero-not = zero-not; agree = agree }

@@ -1,0 +1,103 @@
+// A new setting: the state that it starts with, or the all-zero state where it is not valid. It takes no old state.
+ghost use mathlib.Core.Path.{_≡_};
+ghost use mathlib.Core.List.{[], _∷_};
+ghost use lib.IntN.{pos};
+ghost use lib.ListN.{replicate};
+ghost use Rattle.whole.specs.Lists.{onFirst};
+ghost use Rattle.settings.specs.Settings.{slots, settingsOf};
+ghost use Rattle.start.specs.Start.{answerOf, told, numbersOf, Started};
+use octets::parts::copy_octets;
+use period::hold_of;
+use period::ticks_of;
+use settings::COUNT;
+use settings::PEERS;
+use settings::PERIOD;
+use settings::is_valid;
+use state::FAR;
+use state::NEAR;
+use state::NEXT;
+use words::set_first;
+use words::zero_words;
+
+// What a new setting is answered.
+pub enum SettingAnswer {
+    // Refusal 4: it breaks a rule on its values.
+    Invalid,
+    Set,
+}
+
+// An answer in the paper's numbers: the refusal, or 0.
+#[repr(C)]
+pub struct SettingTold {
+    pub refusal: u32,
+}
+
+// Sets the running part of a state to zeros.
+fn zero_running(
+    timers: &mut [u32; PEERS],
+    rdi: &mut [u32; PEERS],
+    run: &mut [u32; 15],
+    totals: &mut [i64; 2],
+)
+    ensures { λ _. ⌜ (now (timers .exit) ≡ replicate slots 0) × (now (rdi .exit) ≡ replicate slots 0) × (now (run .exit) ≡ replicate 15 0) × (now (totals .exit) ≡ pos 0 ∷ pos 0 ∷ []) ⌝ }
+{
+    zero_words(timers);
+    zero_words(rdi);
+    zero_words(run);
+    // a view of the array tells its length, and costs nothing
+    let _both: &[i64] = totals;
+    totals[NEAR] = 0;
+    totals[FAR] = 0;
+}
+
+// Sets the settings themselves to zeros.
+fn zero_settings(set: &mut [u32; 4], names: &mut [u8; 60], ids: &mut [u32; PEERS])
+    ensures { λ _. ⌜ (now (set .exit) ≡ replicate 4 0) × (now (names .exit) ≡ replicate 60 0) × (now (ids .exit) ≡ replicate slots 0) ⌝ }
+{
+    let zeros = [0u8; 60];
+    zero_words(set);
+    copy_octets(names, 0, &zeros);
+    zero_words(ids);
+}
+
+// Sets the used peers' timers to the hold time.
+fn start_timers(timers: &mut [u32; PEERS], count: u32, hold: u32)
+    ensures { λ _. ⌜ now (timers .exit) ≡ onFirst (λ x. hold) count (now (timers .entry)) ⌝ }
+{
+    set_first(timers, count as usize, hold);
+}
+
+// Takes the settings that lie in the arrays: the state starts with them, or all of it is 0 where they are not valid.
+pub fn new_setting(
+    set: &mut [u32; 4],
+    names: &mut [u8; 60],
+    ids: &mut [u32; PEERS],
+    timers: &mut [u32; PEERS],
+    rdi: &mut [u32; PEERS],
+    run: &mut [u32; 15],
+    totals: &mut [i64; 2],
+) -> SettingAnswer
+    ensures { λ r. ⌜ (r ≡ answerOf (settingsOf (now (set .entry)) (now (names .entry)) (now (ids .entry)))) × (told r ≡ numbersOf (settingsOf (now (set .entry)) (now (names .entry)) (now (ids .entry)))) ⌝ }
+    ensures { λ _. ⌜ Started (now (set .entry)) (now (names .entry)) (now (ids .entry)) (now (set .exit)) (now (names .exit)) (now (ids .exit)) (now (timers .exit)) (now (rdi .exit)) (now (run .exit)) (now (totals .exit)) ⌝ }
+{
+    zero_running(timers, rdi, run, totals);
+    if !is_valid(set, names, ids) {
+        zero_settings(set, names, ids);
+        return SettingAnswer::Invalid;
+    }
+    let period = set[PERIOD];
+    let count = set[COUNT];
+    start_timers(timers, count, hold_of(period));
+    run[NEXT] = ticks_of(period);
+    SettingAnswer::Set
+}
+
+// An answer in the paper's numbers.
+pub fn tell(answer: SettingAnswer) -> SettingTold
+    ensures { λ r. ⌜ r ≡ told answer ⌝ }
+{
+    match answer {
+        SettingAnswer::Invalid => SettingTold { refusal: 4 },
+        SettingAnswer::Set => SettingTold { refusal: 0 },
+    }
+}

@@ -29,7 +29,7 @@ use Rattle.incoming.proofs.Goods.{good-frames}
 use Rattle.incoming.proofs.Shape.{framed, pdu-is, ether-is, framed-long, headed}
 use Rattle.fields.specs.declared.CcmFields.{CcmFields}
 use Rattle.fields.specs.Fixed.{word, ccmIn, noCcm, ccmOf, megIn, megOf}
-use Rattle.edges.specs.Table.{ccmFrame, ReadAlike, fourMore, oneLess}
+use Rattle.edges.specs.Table.{ccmFrame, SameMessage, fourMore, oneLess}
 
 -- a CCM's fields from its flags and its fixed part alone
 record From (flags : ℕ) (fixed pdu : List ℕ) : Type 0 where

@@ -51,7 +51,7 @@ abbrev pub ccmFrame : List ℕ → ℕ → ℕ → ℕ → List ℕ → List ℕ
 ccmFrame addresses first flags offset behind = addresses ++ (0x89 ∷ 0x02 ∷ first ∷ 1 ∷ flags ∷ offset ∷ behind)
 
 -- two frames are the same message with the same fields and the same TLVs
-pub record ReadAlike (f g : List ℕ) : Type 0 where
+pub record SameMessage (f g : List ℕ) : Type 0 where
   pub message : messageOf f ≡ messageOf g
   pub fields : ccmOf f ≡ ccmOf g
   pub meg : megOf f ≡ megOf g
@@ -75,7 +75,7 @@ pub record ReadsFirst (flags : ℕ) (fixed f : List ℕ) : Type 0 where
 -- after them and any TLVs; the level, the flags and the first octet of the other are free too
 abbrev pub fourMore : Type 0
 fourMore = (addresses fixed extra tlvs : List ℕ) (level first flags : ℕ) → length addresses ≡ 12 → length fixed ≡ 70 → length extra ≡ 4 → length tlvs ≤ 1422
-    → ReadAlike (ccmFrame addresses (firstOctet level 1) flags 74 (fixed ++ extra ++ tlvs)) (ccmFrame addresses first flags 70 (fixed ++ tlvs))
+    → SameMessage (ccmFrame addresses (firstOctet level 1) flags 74 (fixed ++ extra ++ tlvs)) (ccmFrame addresses first flags 70 (fixed ++ tlvs))
     × ReadsFirst flags fixed (ccmFrame addresses (firstOctet level 1) flags 74 (fixed ++ extra ++ tlvs))
 
 -- one with offset 69 is D4, whatever else it holds

@@ -35,9 +35,9 @@ headLength = 14
 abbrev pub pduOf : List ℕ → List ℕ
 pduOf f = drop headLength f
 
--- where it stands: in the frame's own memory; of a frame shorter than its head, at the frame's start
-abbrev pub pduPlace : ℕ × ℕ → List ℕ → ℕ × ℕ
-pduPlace p f = cond (ltb (length f) headLength) p (p .0, headLength + p .1)
+-- a place of a frame, in the frame's own memory; of a frame shorter than its head, the frame's start
+abbrev pub placeOrStart : ℕ → ℕ × ℕ → List ℕ → ℕ × ℕ
+placeOrStart at p f = cond (ltb (length f) headLength) p (p .0, at + p .1)
 
 -- a place of the PDU as a place of the frame
 abbrev pub behindHead : ℕ → ℕ

@@ -1,6 +1,6 @@
 -- An address as a part of a frame. The paper, "Numbers": destination 6, source 6; a frame has 14 octets or more, and what is shorter has
 -- none. Definitions only.
-use Prim.Native.Nat.{ℕ, _+_}
+use Prim.Native.Nat.{ℕ}
 use mathlib.Core.Bool.{cond}
 use mathlib.Core.List.{List, []}
 use lib.Dec.{ltb}
@@ -10,7 +10,3 @@ use Rattle.frame.specs.Head.{headLength}
 -- the octets, of a frame that is not shorter than its head
 abbrev pub inHead : List ℕ → List ℕ → List ℕ
 inHead octets f = cond (ltb (length f) headLength) [] octets
-
--- where they stand: in the frame's own memory; of a shorter frame, at its start
-abbrev pub placeInHead : ℕ → ℕ × ℕ → List ℕ → ℕ × ℕ
-placeInHead at p f = cond (ltb (length f) headLength) p (p .0, at + p .1)

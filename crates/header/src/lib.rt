@@ -1,8 +1,8 @@
 // What stands before a PDU's fixed part: the two addresses, and the level and version in the first octet. Each answers for any octets.
 ghost use mathlib.Core.Path.{_≡_};
 ghost use denote.Ref.{ptr};
-ghost use Rattle.frame.specs.Head.{destinationOf, sourceOf, pduOf, levelOf, versionOf};
-ghost use Rattle.header.specs.Addresses.{inHead, placeInHead};
+ghost use Rattle.frame.specs.Head.{destinationOf, sourceOf, pduOf, placeOrStart, levelOf, versionOf};
+ghost use Rattle.header.specs.Addresses.{inHead};
 use bits::level_of;
 use bits::version_of;
 use frame::head::HEAD_LENGTH;
@@ -10,7 +10,7 @@ use frame::head::pdu_of;
 
 // The destination, as that part of the frame; empty, at the frame's start, where the frame is shorter than its head.
 pub fn destination(frame: &[u8]) -> &[u8]
-    ensures { λ r. ⌜ (now r ≡ inHead (destinationOf (now (frame .entry))) (now (frame .entry))) × (ptr r ≡ placeInHead 0 (ptr (frame .entry)) (now (frame .entry))) ⌝ }
+    ensures { λ r. ⌜ (now r ≡ inHead (destinationOf (now (frame .entry))) (now (frame .entry))) × (ptr r ≡ placeOrStart 0 (ptr (frame .entry)) (now (frame .entry))) ⌝ }
 {
     if frame.len() < HEAD_LENGTH {
         return &frame[..0];
@@ -20,7 +20,7 @@ pub fn destination(frame: &[u8]) -> &[u8]
 
 // The source, in the same way.
 pub fn source(frame: &[u8]) -> &[u8]
-    ensures { λ r. ⌜ (now r ≡ inHead (sourceOf (now (frame .entry))) (now (frame .entry))) × (ptr r ≡ placeInHead 6 (ptr (frame .entry)) (now (frame .entry))) ⌝ }
+    ensures { λ r. ⌜ (now r ≡ inHead (sourceOf (now (frame .entry))) (now (frame .entry))) × (ptr r ≡ placeOrStart 6 (ptr (frame .entry)) (now (frame .entry))) ⌝ }
 {
     if frame.len() < HEAD_LENGTH {
         return &frame[..0];

@@ -4,7 +4,7 @@ use mathlib.Core.List.{List}
 use lib.ListN.{getD}
 use Rattle.whole.specs.Lists.{part}
 
--- how many peers a box has room for
+-- how many peers a box has room for: as many slots as the array of IDs has
 abbrev pub slots : ℕ
 slots = 8
 

@@ -27,7 +27,7 @@ pub record Valid (s : Settings) : Type 0 where
   pub mep : IsMepId (s .mep)
   pub some-period : 1 ≤ s .period
   pub period : s .period ≤ 7
-  -- at least one peer, and a slot for each
+  -- at least one peer, and a slot for each: the array has eight
   pub some-peer : 1 ≤ s .count
   pub slots : s .count ≤ length (s .ids)
   pub own : groupBit (s .own) ≡ 0

@@ -9,7 +9,7 @@ use octets::parts::same_octets;
 use words::all_distinct;
 use words::all_within;
 
-// How many peers a box has room for. No other number says so.
+// How many peers a box has room for: the code's only 8. The definitions have theirs, `slots`.
 pub const PEERS: usize = 8;
 
 // Where the settings' words lie.

@@ -9,8 +9,8 @@ use lib.Dec.{eqb}
 use lib.ListN.{length}
 use borrow.Author.Tests.{eqb-true, eq-eqb, ne-eqb}
 use Rattle.whole.proofs.Tests.{either-true}
+use Rattle.opcodes.specs.Opcodes.{ruleOf}
 use Rattle.frame.specs.Head.{pduOf, opcodeOf}
-use Rattle.frame.specs.Opcodes.{ruleOf}
 use Rattle.incoming.specs.Told.{goodOpcode}
 use Rattle.incoming.proofs.Goods.{good-frames}
 use Rattle.incoming.proofs.Numbers.{only}

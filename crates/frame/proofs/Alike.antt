@@ -12,10 +12,10 @@ use Rattle.whole.specs.Lists.{part}
 use Rattle.whole.proofs.Tests.{known}
 use Rattle.whole.proofs.Lists.{part-drop}
 use Rattle.frame.specs.declared.reader.Bad.{Bad}
-use Rattle.frame.specs.declared.reader.Place.{Place}
-use Rattle.frame.specs.declared.reader.Place.the-variants.{End, Found, Cut}
+use Rattle.tlvs.specs.declared.Place.{Place}
+use Rattle.tlvs.specs.declared.Place.the-variants.{End, Found, Cut}
 use Rattle.frame.specs.Head.{pduOf, startOf}
-use Rattle.frame.specs.Tlvs.{lengthOf, walk, walkFrom}
+use Rattle.tlvs.specs.Tlvs.{lengthOf, walk, walkFrom}
 use Rattle.frame.specs.Reader.{whole, wanted, inFrame, partOf, valueOf, placeAt, placeOf, answerAt, answerOf}
 use Rattle.frame.specs.Alike.{Alike, ReadAlike}
 use Rattle.frame.proofs.Chain.{chained, through}

@@ -7,15 +7,15 @@ use lib.Dec.{ltb}
 use lib.ListN.{length}
 use Rattle.whole.specs.Tests.{choose}
 use Rattle.whole.proofs.Tests.{choose-map}
+use Rattle.opcodes.specs.Opcodes.{ruleOf, known as known-op}
 use Rattle.frame.specs.declared.reader.Bad.{Bad}
 use Rattle.frame.specs.declared.reader.Bad.the-variants.{Length, Short, Opcode, Offset}
 use Rattle.frame.specs.declared.reader.Head.{Head}
 use Rattle.frame.specs.declared.reader.Head.the-variants as head
 use Rattle.frame.specs.declared.reader.Seek.{Seek}
 use Rattle.frame.specs.declared.reader.Seek.the-variants as seek
-use Rattle.frame.specs.Opcodes.{ruleOf, known as known-op}
 use Rattle.frame.specs.Head.{isOam, lengthGood, pduOf, opcodeOf, offsetOf, startOf}
-use Rattle.frame.specs.Tlvs.{walkFrom}
+use Rattle.tlvs.specs.Tlvs.{walkFrom}
 use Rattle.frame.specs.Reader.{judge, judgePdu, whole, inFrame, seekAt, seekOf}
 
 -- the reasons in order, as the reader finds them, and what the TLVs say behind them

@@ -6,10 +6,10 @@ use mathlib.Core.List.{List}
 use borrow.Author.Tests.{lt-ltb, le-ltb, le-leb, lt-leb, eq-eqb, ne-eqb}
 use lib.ListN.{length}
 use Rattle.whole.specs.Tests.{choose}
+use Rattle.opcodes.specs.Opcodes.{ruleOf, known}
 use Rattle.frame.specs.declared.reader.Bad.the-variants.{Length, Short, Opcode, Offset}
 use Rattle.frame.specs.declared.reader.Head.the-variants as head
 use Rattle.frame.specs.Head.{etherTypeOf, pduOf, opcodeOf, offsetOf, startOf}
-use Rattle.frame.specs.Opcodes.{ruleOf, known}
 use Rattle.frame.specs.Reader.{judgePdu, judge}
 
 module _ (p : List ℕ) where

@@ -1,7 +1,4 @@
-pub mod Rules
 pub mod Judged
-pub mod Steps
-pub mod Agrees
 pub mod Seeks
 pub mod Chain
 pub mod Numbers

@@ -10,15 +10,15 @@ use Rattle.whole.specs.Tests.{choose}
 use Rattle.whole.proofs.Tests.{known}
 use Rattle.frame.specs.declared.reader.Bad.{Bad}
 use Rattle.frame.specs.declared.reader.Bad.the-variants.{Length, Short, Opcode, Offset, CutOff}
-use Rattle.frame.specs.declared.reader.Place.{Place}
-use Rattle.frame.specs.declared.reader.Place.the-variants as place
+use Rattle.tlvs.specs.declared.Place.{Place}
+use Rattle.tlvs.specs.declared.Place.the-variants as place
 use Rattle.frame.specs.declared.reader.Seek.{Seek}
 use Rattle.frame.specs.declared.reader.Seek.the-variants as seek
 use Rattle.frame.specs.declared.reader.TlvAnswer.{TlvAnswer}
 use Rattle.frame.specs.declared.reader.TlvAnswer.the-variants as answer
 use Rattle.frame.specs.declared.reader.TlvTold.{TlvTold}
 use Rattle.frame.specs.Head.{pduOf, startOf}
-use Rattle.frame.specs.Tlvs.{lengthOf, walk, walkFrom}
+use Rattle.tlvs.specs.Tlvs.{lengthOf, walk, walkFrom}
 use Rattle.frame.specs.Reader.{isCut, wanted, whole, inFrame, answerAt, answerOf}
 use Rattle.frame.specs.Told.{numbers, badOf, told, isFound, numbersOf, ReaderNumbers}
 use Rattle.frame.proofs.Chain.{chained, through}
@@ -78,7 +78,7 @@ bare CutOff = refl
 -- ── type 0 ──
 
 -- a walk for type 0 stops at an end or a cut
-not-found : (left : ℕ) (xs : List ℕ) (at : ℕ) → isFound (walk 0 left xs at) ≡ false
+pub not-found : (left : ℕ) (xs : List ℕ) (at : ℕ) → isFound (walk 0 left xs at) ≡ false
 unfolding walk
 not-found left [] at = refl
 not-found (suc left) (x ∷ xs) at = not-found left xs (at + 1)

@@ -3,20 +3,12 @@
 use mathlib.Core.Path.{_≡_, sym, _∙_}
 use denote.Ref.{now, ptr}
 use Rattle.frame.proofs.head.pdu_of.Reads as pdu-of
-use Rattle.frame.proofs.opcode.rule_of.Reads as rule-of
-use Rattle.frame.proofs.opcode.is_known.Reads as is-known
 use Rattle.frame.proofs.reader.tlv_value.Reads as tlv-value
 use Rattle.frame.proofs.reader.tlv_answer.Reads as tlv-answer
 use Rattle.frame.proofs.reader.tell.Reads as tell
 
 pub pdu-of-one : (κs : _) (a : _) (r r′ : _) (s s′ : _) → pdu-of.Post κs a r s → pdu-of.Post κs a r′ s′ → (now r ≡ now r′) × (ptr r ≡ ptr r′)
 pdu-of-one κs a r r′ s s′ p q = (p .0 ∙ sym (q .0), p .1 ∙ sym (q .1))
-
-pub rule-of-one : (κs : _) (a : _) (r r′ : _) (s s′ : _) → rule-of.Post κs a r s → rule-of.Post κs a r′ s′ → r ≡ r′
-rule-of-one κs a r r′ s s′ p q = p ∙ sym q
-
-pub is-known-one : (κs : _) (a : _) (r r′ : _) (s s′ : _) → is-known.Post κs a r s → is-known.Post κs a r′ s′ → r ≡ r′
-is-known-one κs a r r′ s s′ p q = p ∙ sym q
 
 pub tlv-value-one : (κs : _) (a : _) (r r′ : _) (s s′ : _) → tlv-value.Post κs a r s → tlv-value.Post κs a r′ s′ → (now r ≡ now r′) × (ptr r ≡ ptr r′)
 tlv-value-one κs a r r′ s s′ p q = (p .0 ∙ sym (q .0), p .1 ∙ sym (q .1))

@@ -13,11 +13,11 @@ use Rattle.frame.specs.declared.reader.Bad.{Bad}
 use Rattle.frame.specs.declared.reader.Bad.the-variants.{CutOff}
 use Rattle.frame.specs.declared.reader.Head.{Head}
 use Rattle.frame.specs.declared.reader.Head.the-variants as head
-use Rattle.frame.specs.declared.reader.Place.{Place}
+use Rattle.tlvs.specs.declared.Place.{Place}
 use Rattle.frame.specs.declared.reader.Seek.{Seek}
 use Rattle.frame.specs.declared.reader.Seek.the-variants as seek
 use Rattle.frame.specs.Head.{headLength, pduOf}
-use Rattle.frame.specs.Tlvs.{walkFrom}
+use Rattle.tlvs.specs.Tlvs.{walkFrom}
 use Rattle.frame.specs.Reader.{judge, isCut, wanted, whole, inFrame, seekAt, seekOf, Within}
 use Rattle.frame.proofs.Judged.{frame-short}
 

@@ -7,19 +7,19 @@ use lib.Dec.{ltb}
 use lib.ListN.{length}
 use Rattle.whole.specs.Tests.{choose}
 use Rattle.whole.specs.Lists.{part}
+use Rattle.opcodes.specs.Opcodes.{ruleOf, known}
 use Rattle.frame.specs.declared.reader.Bad.{Bad}
 use Rattle.frame.specs.declared.reader.Bad.the-variants.{Length, Short, Opcode, Offset, CutOff}
 use Rattle.frame.specs.declared.reader.Head.{Head}
 use Rattle.frame.specs.declared.reader.Head.the-variants as head
-use Rattle.frame.specs.declared.reader.Place.{Place}
-use Rattle.frame.specs.declared.reader.Place.the-variants as place
+use Rattle.tlvs.specs.declared.Place.{Place}
+use Rattle.tlvs.specs.declared.Place.the-variants as place
 use Rattle.frame.specs.declared.reader.Seek.{Seek}
 use Rattle.frame.specs.declared.reader.Seek.the-variants as seek
 use Rattle.frame.specs.declared.reader.TlvAnswer.{TlvAnswer}
 use Rattle.frame.specs.declared.reader.TlvAnswer.the-variants as answer
 use Rattle.frame.specs.Head.{isOam, lengthGood, behindHead, pduOf, opcodeOf, offsetOf, startOf}
-use Rattle.frame.specs.Opcodes.{ruleOf, known}
-use Rattle.frame.specs.Tlvs.{walkFrom}
+use Rattle.tlvs.specs.Tlvs.{walkFrom}
 
 -- ── before the TLVs ──
 

@@ -1,5 +1,4 @@
-// Reading a frame alone: its head, the opcode's rule, the TLVs, and the value of a TLV as that part of the frame. Nothing here knows of
-// settings or state, and no function asks anything of its caller.
+// Reading a frame alone: its head, the TLVs, and the value of a TLV as that part of the frame. Nothing here knows of settings or state,
+// and no function asks anything of its caller.
 pub mod head;
-pub mod opcode;
 pub mod reader;

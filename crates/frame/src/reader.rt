@@ -1,14 +1,17 @@
 // The reader: asked for a TLV type, the value of the first such TLV as that part of the caller's frame.
 ghost use mathlib.Core.Path.{_≡_};
 ghost use denote.Ref.{ptr};
-ghost use Rattle.frame.specs.Tlvs.{walkFrom, Inside};
+ghost use Rattle.tlvs.specs.Tlvs.{walkFrom};
 ghost use Rattle.frame.specs.Told.{badOf, told, numbersOf};
 ghost use Rattle.frame.specs.Reader.{judgePdu, judge, isCut, whole, seekOf, Within, valueOf, placeOf, answerOf};
 use crate::head::HEAD_LENGTH;
-use crate::opcode::is_known;
-use crate::opcode::rule_of;
+use crate::head::LONGEST;
 use octets::numbers::octet;
 use octets::numbers::read_big;
+use opcodes::is_known;
+use opcodes::rule_of;
+use tlvs::Place;
+use tlvs::walk;
 
 // Why a frame cannot be read.
 pub enum Bad {
@@ -28,13 +31,6 @@ pub enum Bad {
 pub enum Head {
     Bad(Bad),
     Tlvs(usize),
-}
-
-// Where a walk over the TLVs stops: at type 0, at the wanted type (its value's start and length), or at a cut.
-pub enum Place {
-    End(usize),
-    Found { start: usize, len: usize },
-    Cut(usize),
 }
 
 // What a search for a TLV finds: a reason, no such TLV, or where in the frame its value stands.
@@ -59,37 +55,6 @@ pub struct TlvTold {
     pub value: u32,
 }
 
-// Walks over the TLVs of a PDU from a place on.
-fn walk(pdu: &[u8], kind: u8, start: usize) -> Place
-    ensures { λ r. ⌜ (r ≡ walkFrom kind start (now (pdu .entry))) × Inside (now (pdu .entry)) r ⌝ }
-{
-    let mut at = start;
-    let place = loop {
-        if pdu.len() <= at {
-            break Place::Cut(at);
-        }
-        let t = pdu[at];
-        if t == 0 {
-            break Place::End(at);
-        }
-        if pdu.len() - at < 3 {
-            break Place::Cut(at);
-        }
-        let n = read_big(pdu, at + 1, 2) as usize;
-        if pdu.len() - at - 3 < n {
-            break Place::Cut(at);
-        }
-        if t == kind {
-            break Place::Found {
-                start: at + 3,
-                len: n,
-            };
-        }
-        at = at + 3 + n;
-    };
-    place
-}
-
 // What stands before the TLVs of a PDU: D1, D3, D4, or where they start, by the frame's own offset.
 fn judge_pdu(pdu: &[u8]) -> Head
     ensures { λ r. ⌜ r ≡ judgePdu (now (pdu .entry)) ⌝ }
@@ -102,8 +67,9 @@ fn judge_pdu(pdu: &[u8]) -> Head
     if !is_known(handler) {
         return Head::Bad(Bad::Opcode);
     }
+    let least = rule.least;
     let offset = octet(pdu, 3) as usize;
-    if offset < rule.least {
+    if offset < least {
         return Head::Bad(Bad::Offset);
     }
     Head::Tlvs(4 + offset)
@@ -116,7 +82,7 @@ fn judge_frame(frame: &[u8]) -> Head
     if frame.len() < HEAD_LENGTH {
         return Head::Bad(Bad::Length);
     }
-    if 1514 < frame.len() {
+    if LONGEST < frame.len() {
         return Head::Bad(Bad::Length);
     }
     if read_big(frame, 12, 2) != 0x8902 {

@@ -14,17 +14,17 @@ use Rattle.whole.specs.Tests.{choose}
 use Rattle.whole.specs.Lists.{part}
 use Rattle.whole.proofs.Lists.{part-drop}
 use Rattle.whole.proofs.Tests.{known as if-known, both-true}
+use Rattle.opcodes.specs.Opcodes.{ruleOf, known}
 use Rattle.frame.specs.declared.reader.Bad.{Bad}
-use Rattle.frame.specs.declared.reader.Place.{Place}
-use Rattle.frame.specs.declared.reader.Place.the-variants.{End, Found, Cut}
+use Rattle.tlvs.specs.declared.Place.{Place}
+use Rattle.tlvs.specs.declared.Place.the-variants.{End, Found, Cut}
 use Rattle.frame.specs.declared.reader.Seek.{Seek}
 use Rattle.frame.specs.declared.reader.TlvAnswer.{TlvAnswer}
 use Rattle.frame.specs.Head.{etherTypeOf, isOam, lengthGood, headLength, pduOf, opcodeOf, offsetOf, startOf}
-use Rattle.frame.specs.Opcodes.{ruleOf, known}
-use Rattle.frame.specs.Tlvs.{lengthOf, walk, walkFrom}
+use Rattle.tlvs.specs.Tlvs.{lengthOf, walk, walkFrom}
 use Rattle.frame.specs.Reader.{isCut, wanted, whole, inFrame, answerAt, answerOf, partOf, valueOf}
 use Rattle.frame.proofs.Chain.{chained, through}
-use Rattle.frame.proofs.Steps.{past}
+use Rattle.tlvs.proofs.Steps.{past}
 use Rattle.incoming.specs.Good.{Headed, Good, isBad, tlvsOf, GoodFrames}
 
 -- a search behind the reasons is bad exactly where the walk to the end is cut

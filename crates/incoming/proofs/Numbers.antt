@@ -11,17 +11,17 @@ use Rattle.whole.specs.Tests.{choose}
 use Rattle.whole.specs.Lists.{everyBelow}
 use Rattle.whole.proofs.Lists.{below-is}
 use Rattle.whole.proofs.Tests.{known as if-known}
+use Rattle.opcodes.specs.Opcodes.{rule, ruleOf, known}
+use Rattle.opcodes.proofs.Rules.{rule-none}
 use Rattle.frame.specs.declared.reader.Bad.the-variants.{Length, Short, Opcode, Offset, CutOff}
 use Rattle.frame.specs.declared.reader.TlvAnswer.{TlvAnswer}
 use Rattle.frame.specs.declared.reader.TlvAnswer.the-variants as tlv
 use Rattle.frame.specs.declared.reader.TlvTold.{TlvTold}
 use Rattle.frame.specs.Head.{pduOf, opcodeOf, flagsOf}
-use Rattle.frame.specs.Opcodes.{rule, ruleOf, known}
 use Rattle.frame.specs.Reader.{answerOf}
 use Rattle.frame.specs.Told.{badOf, told as reader-told}
 use Rattle.frame.specs.Told as Reader
 use Rattle.frame.proofs.Numbers.{agree as reader-agree}
-use Rattle.frame.proofs.Rules.{rule-none}
 use Rattle.incoming.specs.declared.MessageAnswer.{MessageAnswer}
 use Rattle.incoming.specs.declared.MessageTold.{MessageTold}
 use Rattle.incoming.specs.Good.{Good, isBad}

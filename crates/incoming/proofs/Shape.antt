@@ -9,8 +9,8 @@ use lib.Seq.{drop-at}
 use Rattle.whole.specs.Lists.{part}
 use Rattle.whole.proofs.Lists.{part-here}
 use Rattle.octets.specs.Numbers.{number, numberLowestFirst, bigEndian}
+use Rattle.opcodes.specs.Opcodes.{ruleOf, known}
 use Rattle.frame.specs.Head.{etherTypeOf, pduOf, opcodeOf, offsetOf}
-use Rattle.frame.specs.Opcodes.{ruleOf, known}
 use Rattle.incoming.specs.Good.{Headed, tlvsOf}
 
 -- addresses, 89-02, and the PDU

@@ -4,12 +4,12 @@ use Prim.Native.Nat.{ℕ, _%_}
 use mathlib.Core.Bool.{Bool, true, _||_, not, cond}
 use mathlib.Core.List.{List}
 use lib.Dec.{eqb}
-use Rattle.frame.specs.declared.opcode.Handler.{Handler}
-use Rattle.frame.specs.declared.opcode.Handler.the-variants.{Nobody, ReaderOnly, Continuity, Loopback, Alarm, Lock, LossReply, LossRequest, DelayReply, DelayRequest}
+use Rattle.opcodes.specs.declared.Handler.{Handler}
+use Rattle.opcodes.specs.declared.Handler.the-variants.{Nobody, ReaderOnly, Continuity, Loopback, Alarm, Lock, LossReply, LossRequest, DelayReply, DelayRequest}
+use Rattle.opcodes.specs.Opcodes.{ruleOf}
 use Rattle.frame.specs.declared.reader.TlvAnswer.{TlvAnswer}
 use Rattle.frame.specs.declared.reader.TlvAnswer.the-variants as tlv
 use Rattle.frame.specs.Head.{pduOf, opcodeOf, flagsOf}
-use Rattle.frame.specs.Opcodes.{ruleOf}
 use Rattle.frame.specs.Reader.{answerOf}
 use Rattle.incoming.specs.declared.MessageAnswer.{MessageAnswer}
 use Rattle.incoming.specs.declared.MessageAnswer.the-variants.{Message, PeriodCode, Bad}

@@ -5,11 +5,11 @@ use mathlib.Core.Bool.{Bool, true, _&&_, not}
 use mathlib.Core.List.{List, [], _∷_}
 use lib.Dec.{eqb}
 use Rattle.whole.specs.Tests.{choose}
-use Rattle.frame.specs.declared.opcode.Handler.{Handler}
-use Rattle.frame.specs.declared.opcode.Handler.the-variants.{Nobody, ReaderOnly, Continuity, Loopback, Alarm, Lock, LossReply, LossRequest, DelayReply, DelayRequest}
+use Rattle.opcodes.specs.declared.Handler.{Handler}
+use Rattle.opcodes.specs.declared.Handler.the-variants.{Nobody, ReaderOnly, Continuity, Loopback, Alarm, Lock, LossReply, LossRequest, DelayReply, DelayRequest}
+use Rattle.opcodes.specs.Opcodes.{ruleOf, known}
 use Rattle.frame.specs.declared.reader.TlvTold.{TlvTold}
 use Rattle.frame.specs.Head.{pduOf, opcodeOf, flagsOf}
-use Rattle.frame.specs.Opcodes.{ruleOf, known}
 use Rattle.frame.specs.Told as Reader
 use Rattle.incoming.specs.declared.MessageAnswer.{MessageAnswer}
 use Rattle.incoming.specs.declared.MessageAnswer.the-variants.{Message, PeriodCode, Bad}

@@ -4,12 +4,12 @@ ghost use Rattle.incoming.specs.Message.{codeGood, judgedOf, messageOf};
 ghost use Rattle.incoming.specs.Told.{opcodeFor, told, numbersOf, goodOpcode};
 use bits::period_code_of;
 use frame::head::pdu_of;
-use frame::opcode::Handler;
-use frame::opcode::rule_of;
 use frame::reader::Bad;
 use frame::reader::TlvAnswer;
 use frame::reader::tell as tell_reader;
 use frame::reader::tlv_answer;
+use opcodes::Handler;
+use opcodes::rule_of;
 
 // Which message a frame is.
 pub enum MessageAnswer {

@@ -11,16 +11,16 @@ use Rattle.whole.specs.Lists.{part}
 use Rattle.whole.proofs.Apart.{part-front}
 use Rattle.whole.proofs.Lists.{part-behind, part-all}
 use Rattle.octets.specs.Numbers.{inOctets, octetsLowestFirst, bigEndian}
-use Rattle.frame.specs.declared.reader.Place.{Place}
-use Rattle.frame.specs.declared.reader.Place.the-variants.{End}
+use Rattle.opcodes.specs.Opcodes.{ruleOf, known}
+use Rattle.tlvs.specs.declared.Place.{Place}
+use Rattle.tlvs.specs.declared.Place.the-variants.{End}
 use Rattle.frame.specs.declared.reader.TlvAnswer.{TlvAnswer}
 use Rattle.frame.specs.declared.reader.TlvAnswer.the-variants.{NoSuch}
 use Rattle.frame.specs.Head.{destinationOf, sourceOf, pduOf, levelOf, versionOf, opcodeOf, flagsOf, offsetOf, startOf}
-use Rattle.frame.specs.Opcodes.{ruleOf, known}
-use Rattle.frame.specs.Tlvs.{walkFrom}
+use Rattle.tlvs.specs.Tlvs.{walkFrom}
 use Rattle.frame.specs.Reader.{isCut, whole, inFrame, answerAt, answerOf}
 use Rattle.frame.proofs.Chain.{through}
-use Rattle.frame.proofs.Steps.{ended}
+use Rattle.tlvs.proofs.Steps.{ended}
 use Rattle.incoming.specs.declared.MessageAnswer.{MessageAnswer}
 use Rattle.incoming.specs.declared.MessageAnswer.the-variants.{Message}
 use Rattle.incoming.specs.Good.{Headed, Good}

@@ -14,10 +14,10 @@ use Rattle.whole.proofs.Lists.{part-drop, part-all}
 use Rattle.octets.specs.Numbers.{number, bigEndian}
 use Rattle.delay.specs.declared.Stamp.{Stamp}
 use Rattle.delay.specs.Stamps.{Wire}
-use Rattle.frame.specs.declared.opcode.Handler.{Handler}
-use Rattle.frame.specs.declared.opcode.Handler.the-variants.{ReaderOnly, Loopback, LossReply, LossRequest, DelayReply, DelayRequest}
+use Rattle.opcodes.specs.declared.Handler.{Handler}
+use Rattle.opcodes.specs.declared.Handler.the-variants.{ReaderOnly, Loopback, LossReply, LossRequest, DelayReply, DelayRequest}
+use Rattle.opcodes.specs.Opcodes.{ruleOf}
 use Rattle.frame.specs.Head.{pduOf, opcodeOf}
-use Rattle.frame.specs.Opcodes.{ruleOf}
 use Rattle.incoming.specs.declared.MessageAnswer.the-variants.{Message}
 use Rattle.incoming.specs.declared.MessageTold.{MessageTold}
 use Rattle.incoming.specs.Good.{Good}

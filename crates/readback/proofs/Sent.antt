@@ -17,7 +17,7 @@ use Rattle.octets.specs.Numbers.{number, numberLowestFirst, inOctets, bigEndian
 use Rattle.octets.proofs.Laws.{length-octets, number-back}
 use Rattle.delay.specs.declared.Stamp.{Stamp}
 use Rattle.delay.specs.Stamps.{notGiven, Wire}
-use Rattle.frame.specs.Opcodes.{ruleOf}
+use Rattle.opcodes.specs.Opcodes.{ruleOf}
 use Rattle.frame.specs.Head.{flagsOf}
 use Rattle.incoming.specs.Message.{periodCode}
 use Rattle.fields.specs.declared.LossFields.{LossFields}

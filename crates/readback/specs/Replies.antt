@@ -8,8 +8,8 @@ use lib.ListN.{length}
 use Rattle.whole.specs.Lists.{part}
 use Rattle.delay.specs.declared.Stamp.{Stamp}
 use Rattle.delay.specs.Stamps.{Wire}
-use Rattle.frame.specs.declared.opcode.Handler.{Handler}
-use Rattle.frame.specs.declared.opcode.Handler.the-variants.{ReaderOnly, Loopback, LossReply, LossRequest, DelayReply, DelayRequest}
+use Rattle.opcodes.specs.declared.Handler.{Handler}
+use Rattle.opcodes.specs.declared.Handler.the-variants.{ReaderOnly, Loopback, LossReply, LossRequest, DelayReply, DelayRequest}
 use Rattle.frame.specs.Head.{sourceOf, pduOf, levelOf, versionOf, flagsOf, offsetOf}
 use Rattle.frame.specs.Reader.{answerOf, valueOf}
 use Rattle.incoming.specs.declared.MessageAnswer.the-variants.{Message}

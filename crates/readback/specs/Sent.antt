@@ -6,7 +6,7 @@ use lib.ListN.{length}
 use Rattle.bits.specs.Fields.{ccmFlags}
 use Rattle.delay.specs.declared.Stamp.{Stamp}
 use Rattle.delay.specs.Stamps.{notGiven, Wire}
-use Rattle.frame.specs.declared.opcode.Handler.the-variants.{Continuity, LossRequest, DelayRequest}
+use Rattle.opcodes.specs.declared.Handler.the-variants.{Continuity, LossRequest, DelayRequest}
 use Rattle.frame.specs.declared.reader.TlvAnswer.the-variants.{NoSuch}
 use Rattle.frame.specs.Reader.{answerOf}
 use Rattle.incoming.specs.declared.MessageAnswer.the-variants.{Message}

@@ -5,7 +5,7 @@ use Prim.Native.Nat.{ℕ}
 use native.Mathlib.Omega.{arith}
 use denote.Ref.{now}
 use Rattle.whole.specs.Tests.{choose}
-use Rattle.frame.specs.Opcodes.{ruleOf}
+use Rattle.opcodes.specs.Opcodes.{ruleOf}
 use mathlib.Core.Bool.{true, false}
 use Rattle.frame.specs.Head.{pduOf}
 use Rattle.fields.specs.declared.DelayFields.{DelayFields}

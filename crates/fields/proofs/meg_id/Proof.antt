@@ -8,8 +8,8 @@ use denote.Ref.{now, ptr}
 use Rattle.whole.specs.Tests.{choose}
 use Rattle.whole.specs.Lists.{part}
 use Rattle.whole.proofs.Lists.{part-drop}
+use Rattle.opcodes.specs.Opcodes.{ruleOf}
 use Rattle.frame.specs.Head.{pduOf, behindHead}
-use Rattle.frame.specs.Opcodes.{ruleOf}
 use Rattle.fields.specs.Fixed.{megIn, megOf, megPlace}
 use Rattle.fields.proofs.There.{one, is, is-not}
 use borrow.Author.Needs.{needs}

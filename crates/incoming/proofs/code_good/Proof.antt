@@ -1,6 +1,6 @@
 -- `incoming::code_good` meets its contract, case by case.
 use mathlib.Core.Path.{sym, ap}
-use Rattle.frame.specs.declared.opcode.Handler.{Handler}
+use Rattle.opcodes.specs.declared.Handler.{Handler}
 use Rattle.incoming.specs.Message.{codeGood}
 use borrow.Author.Needs.{needs}
 use Rattle.incoming.proofs.code_good.Statement.{statement}

@@ -2,8 +2,8 @@
 use mathlib.Core.Bool.{Bool, cond}
 use Prim.Native.Nat.{ℕ}
 use mathlib.Core.Path.{_≡_, sym, ap, _∙_}
-use Rattle.frame.specs.declared.opcode.Rule.{Rule}
-use Rattle.frame.specs.Opcodes.{ruleOf}
+use Rattle.opcodes.specs.declared.Rule.{Rule}
+use Rattle.opcodes.specs.Opcodes.{ruleOf}
 use Rattle.incoming.specs.declared.MessageAnswer.{MessageAnswer}
 use Rattle.incoming.specs.declared.MessageAnswer.the-variants.{Message, PeriodCode}
 use Rattle.incoming.specs.Message.{periodCode, codeGood, judgedOf}
@@ -11,7 +11,7 @@ use borrow.Author.Needs.{needs}
 use Rattle.incoming.proofs.judged.Statement.{statement}
 use Rattle.incoming.proofs.judged.Tie as tie
 use Rattle.bits.proofs.period_code_of.Reads as period-code-of-reads
-use Rattle.frame.proofs.opcode.rule_of.Reads as rule-of-reads
+use Rattle.opcodes.proofs.rule_of.Reads as rule-of-reads
 use Rattle.incoming.proofs.code_good.Reads as code-good-reads
 
 -- the rule, the code and the test that were found are the definition's

@@ -7,10 +7,10 @@ use denote.Ref.{now}
 use lib.ListN.{length}
 use borrow.Author.Needs.{needs}
 use borrow.Author.Tests.{not-true, not-false}
-use Rattle.frame.specs.declared.opcode.Rule.{Rule}
+use Rattle.opcodes.specs.declared.Rule.{Rule}
+use Rattle.opcodes.specs.Opcodes.{known, ruleOf}
 use Rattle.frame.specs.declared.reader.Head.the-variants as head
 use Rattle.frame.specs.Head.{opcodeOf, offsetOf}
-use Rattle.frame.specs.Opcodes.{known, ruleOf}
 use Rattle.frame.proofs.Judged.{pdu-short, pdu-opcode, pdu-offset, pdu-tlvs}
 use Rattle.frame.proofs.reader.judge_pdu.Statement.{statement}
 use Rattle.frame.proofs.reader.judge_pdu.Tie as tie
@@ -45,19 +45,19 @@ cast-offset : tie.Need-cast-offset
 cast-offset c = search needs
 
 returns-3 : tie.Need-returns-3
-returns-3 c = let d = c .before .before .before in
+returns-3 c = let d = c .before .before in
     let p = now (d .before .before .before .before .before .before .args .pdu) in
-    let small : offsetOf p < ruleOf (opcodeOf p) .least = omega (arith, c .before .before .octet .ensures .is, least (d .before), c .if3 .taken) in
+    let small : offsetOf p < ruleOf (opcodeOf p) .least = omega (arith, c .before .octet .ensures .is, least (d .before), c .if3 .taken) in
     sym (pdu-offset p (omega arith) (in-table (d .before) ∙ not-false _ (d .if2 .left)) small)
 
-add-t5 : tie.Need-add-t5
-add-t5 c = search needs
+add-t6 : tie.Need-add-t6
+add-t6 c = search needs
 
 returns-4 : tie.Need-returns-4
-returns-4 c = let d = c .before .before .before in
+returns-4 c = let d = c .before .before in
     let p = now (d .before .before .before .before .before .before .args .pdu) in
-    let large : ruleOf (opcodeOf p) .least ≤ offsetOf p = omega (arith, c .before .before .octet .ensures .is, least (d .before), c .if3 .left) in
-    ap (λ (n : ℕ). head.Tlvs (4 + n)) (c .before .before .octet .ensures .is)
+    let large : ruleOf (opcodeOf p) .least ≤ offsetOf p = omega (arith, c .before .octet .ensures .is, least (d .before), c .if3 .left) in
+    ap (λ (n : ℕ). head.Tlvs (4 + n)) (c .before .octet .ensures .is)
     ∙ sym (pdu-tlvs p (omega arith) (in-table (d .before) ∙ not-false _ (d .if2 .left)) large)
 
 pub judge-pdu-spec : {M : Type 1} → statement M
@@ -72,5 +72,5 @@ judge-pdu-spec =
     octet-requires
     cast-offset
     returns-3
-    add-t5
+    add-t6
     returns-4)

@@ -8,7 +8,7 @@ use lib.ListN.{length, take, drop}
 use borrow.Author.Needs.{needs}
 use Rattle.whole.proofs.Loops.{part-rest}
 use Rattle.frame.specs.declared.reader.Seek.{Seek}
-use Rattle.frame.specs.Tlvs.{walkFrom}
+use Rattle.tlvs.specs.Tlvs.{walkFrom}
 use Rattle.frame.specs.Reader.{whole, inFrame, seekOf, Within}
 use Rattle.frame.proofs.Seeks.{seek-bad, seek-tlvs, long, within}
 use Rattle.frame.proofs.reader.seek_frame.Statement.{statement}

@@ -5,8 +5,8 @@ use mathlib.Core.Bool.{true, false}
 use mathlib.Core.List.{List}
 use denote.Ref.{now}
 use borrow.Author.Needs.{needs}
-use Rattle.frame.specs.declared.reader.Place.{Place}
-use Rattle.frame.specs.Tlvs.{walkFrom, Inside}
+use Rattle.tlvs.specs.declared.Place.{Place}
+use Rattle.tlvs.specs.Tlvs.{walkFrom, Inside}
 use Rattle.frame.specs.Reader.{isCut, wanted, whole}
 use Rattle.frame.proofs.Seeks.{whole-cut, whole-uncut}
 use Rattle.frame.proofs.reader.seek_tlvs.Statement.{statement}

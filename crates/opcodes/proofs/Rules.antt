@@ -12,9 +12,9 @@ use Rattle.whole.specs.Tests.{choose}
 use Rattle.whole.specs.Lists.{every, everyBelow, absent}
 use Rattle.whole.proofs.Lists.{every-is, absent-is, below-is}
 use Rattle.whole.proofs.Tests.{known as if-known}
-use Rattle.frame.specs.declared.opcode.Handler.the-variants.{Nobody}
-use Rattle.frame.specs.declared.opcode.Rule.{Rule}
-use Rattle.frame.specs.Opcodes.{rule, ruleOf, known, handled, OpcodeLists}
+use Rattle.opcodes.specs.declared.Handler.the-variants.{Nobody}
+use Rattle.opcodes.specs.declared.Rule.{Rule}
+use Rattle.opcodes.specs.Opcodes.{rule, ruleOf, known, handled, OpcodeLists}
 
 -- an opcode that is none of the table's
 module _ (op : ℕ) (n1 : op ≡ 1 → ⊥) (n2 : op ≡ 2 → ⊥) (n3 : op ≡ 3 → ⊥) (n33 : op ≡ 33 → ⊥) (n35 : op ≡ 35 → ⊥)

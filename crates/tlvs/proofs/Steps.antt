@@ -1,7 +1,7 @@
 -- What the walk over the TLVs does at a place of the PDU, case by case. Assumes nothing.
-use mathlib.Core.Path.{_≡_, refl, sym, ap, _∙_}
+use mathlib.Core.Path.{_≡_, sym, ap, _∙_}
 use mathlib.Core.List.{List, [], _∷_}
-use mathlib.Core.Bool.{cond, true, false}
+use mathlib.Core.Bool.{cond}
 use Prim.Native.Nat.{ℕ, zero, suc, _+_, _≤_, _<_}
 use native.Mathlib.Nat.{add-zero, not-suc-le-zero}
 use native.Mathlib.Numerals.{add-one}
@@ -13,9 +13,8 @@ use lib.Seq.{drop-cons, drop-drop}
 use Rattle.whole.specs.Lists.{part}
 use Rattle.whole.proofs.Lists.{part-drop}
 use Rattle.octets.specs.Numbers.{number, bigEndian}
-use Rattle.frame.specs.declared.reader.Place.{Place}
-use Rattle.frame.specs.declared.reader.Place.the-variants.{End, Found, Cut}
-use Rattle.frame.specs.Tlvs.{lengthOf, walk, walkFrom}
+use Rattle.tlvs.specs.declared.Place.the-variants.{End, Found, Cut}
+use Rattle.tlvs.specs.Tlvs.{lengthOf, walk, walkFrom}
 
 -- the length octets behind the type at a place
 abbrev pub lengthAt : ℕ → List ℕ → ℕ

@@ -2,14 +2,14 @@
 -- which are requests. Definitions and statements only.
 use Prim.Native.Nat.{ℕ}
 use mathlib.Core.Path.{_≡_}
-use mathlib.Core.List.{List, [], _∷_}
+use mathlib.Core.List.{[], _∷_}
 use mathlib.Core.Bool.{Bool, true, false, not}
 use lib.Dec.{eqb}
 use Rattle.whole.specs.Tests.{choose}
 use Rattle.whole.specs.Lists.{absent}
-use Rattle.frame.specs.declared.opcode.Handler.{Handler}
-use Rattle.frame.specs.declared.opcode.Handler.the-variants.{Nobody, ReaderOnly, Continuity, Loopback, Alarm, Lock, LossReply, LossRequest, DelayReply, DelayRequest}
-use Rattle.frame.specs.declared.opcode.Rule.{Rule}
+use Rattle.opcodes.specs.declared.Handler.{Handler}
+use Rattle.opcodes.specs.declared.Handler.the-variants.{Nobody, ReaderOnly, Continuity, Loopback, Alarm, Lock, LossReply, LossRequest, DelayReply, DelayRequest}
+use Rattle.opcodes.specs.declared.Rule.{Rule}
 
 abbrev pub rule : Handler → ℕ → Bool → Bool → Rule
 rule handler least multicast request = record { handler = handler; least = least; multicast = multicast; request = request }

@@ -1,16 +1,16 @@
--- `frame::reader::walk` meets its contract. The loop's invariant: the walk from here stops where the walk from the start does. The measure is
+-- `tlvs::walk` meets its contract. The loop's invariant: the walk from here stops where the walk from the start does. The measure is
 -- what is left of the PDU.
 use native.Mathlib.Omega.{arith}
 use mathlib.Core.Path.{_≡_, refl, ap, sym, _∙_}
 use Prim.Native.Nat.{ℕ, _+_, _-_, _≤_}
 use denote.Ref.{now}
 use lib.ListN.{length}
-use Rattle.frame.specs.declared.reader.Place.{Place}
-use Rattle.frame.specs.declared.reader.Place.the-variants.{Found}
-use Rattle.frame.specs.Tlvs.{walkFrom}
-use Rattle.frame.proofs.Steps.{past, ended, cut, found, next}
-use Rattle.frame.proofs.reader.walk.Statement.{statement}
-use Rattle.frame.proofs.reader.walk.Tie as tie
+use Rattle.tlvs.specs.declared.Place.{Place}
+use Rattle.tlvs.specs.declared.Place.the-variants.{Found}
+use Rattle.tlvs.specs.Tlvs.{walkFrom}
+use Rattle.tlvs.proofs.Steps.{past, ended, cut, found, next}
+use Rattle.tlvs.proofs.walk.Statement.{statement}
+use Rattle.tlvs.proofs.walk.Tie as tie
 
 abbrev Inv-loop : tie.InvT-loop
 Inv-loop pdu kind start at₀ at = walkFrom kind at pdu ≡ walkFrom kind start pdu

@@ -1,26 +1,26 @@
 -- The walk and the grammar of TLVs agree, both ways: the statements of specs/Tlvs.antt. Assumes nothing.
 use mathlib.Core.Path.{_≡_, refl, sym, ap, _∙_, subst}
 use mathlib.Core.List.{List, [], _∷_, _++_, append-assoc}
-use mathlib.Core.Option.{Option, some, none}
-use mathlib.Core.Bool.{Bool, true, false}
-use mathlib.Core.Logic.{_⊎_, inl, inr, ⊎-elim}
+use mathlib.Core.Option.{some}
+use mathlib.Core.Bool.{true, false}
+use mathlib.Core.Logic.{_⊎_, ⊎-elim}
 use Prim.Native.Nat.{ℕ, zero, suc, _+_, _-_, _^_, _≤_, _<_}
 use native.Mathlib.Nat.{add-zero}
 use native.Mathlib.Numerals.{add-one}
 use native.Mathlib.Omega.{arith}
 use borrow.Author.Tests.{eqb-true, eqb-false, ltb-true, ltb-false}
 use lib.Dec.{eqb, ltb}
-use lib.ListN.{length, take, drop, getD, length-drop, length-append, take-append-drop}
-use lib.Seq.{drop-cons, getD-drop, drop-drop, drop-at, take-take}
+use lib.ListN.{length, drop, getD, length-drop, length-append}
+use lib.Seq.{drop-cons, getD-drop, drop-drop, drop-at}
 use Rattle.whole.specs.Lists.{part}
 use Rattle.whole.proofs.Tests.{known}
 use Rattle.whole.proofs.Lists.{part-drop, drop-part, part-here, length-part}
 use Rattle.octets.specs.Numbers.{number, inOctets, bigEndian, Octets}
 use Rattle.octets.proofs.Laws.{length-octets, number-here, number-below, part-octets, read-again}
-use Rattle.frame.specs.declared.reader.Place.{Place}
-use Rattle.frame.specs.declared.reader.Place.the-variants.{End, Found, Cut}
-use Rattle.frame.specs.Tlvs.{Tlvs, end, one, firstOf, walkFrom, valueAt, WalkAgrees}
-use Rattle.frame.proofs.Steps.{lengthAt, past, ended, cut, found, next}
+use Rattle.tlvs.specs.declared.Place.{Place}
+use Rattle.tlvs.specs.declared.Place.the-variants.{End, Cut}
+use Rattle.tlvs.specs.Tlvs.{Tlvs, end, one, firstOf, walkFrom, valueAt, WalkAgrees}
+use Rattle.tlvs.proofs.Steps.{lengthAt, past, ended, cut, found, next}
 
 -- ── a run of TLVs is walked over ──
 

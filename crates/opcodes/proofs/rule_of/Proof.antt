@@ -1,11 +1,11 @@
--- `frame::opcode::rule_of` meets its contract: each arm is its row of `ruleOf`, and any other opcode is nobody's.
+-- `opcodes::rule_of` meets its contract: each arm is its row of `ruleOf`, and any other opcode is nobody's.
 use mathlib.Core.Path.{sym, ap, _∙_}
 use borrow.Author.Needs.{needs}
 use Rattle.whole.specs.Tests.{choose}
-use Rattle.frame.specs.Opcodes.{ruleOf}
-use Rattle.frame.proofs.Rules.{rule-none}
-use Rattle.frame.proofs.opcode.rule_of.Statement.{statement}
-use Rattle.frame.proofs.opcode.rule_of.Tie as tie
+use Rattle.opcodes.specs.Opcodes.{ruleOf}
+use Rattle.opcodes.proofs.Rules.{rule-none}
+use Rattle.opcodes.proofs.rule_of.Statement.{statement}
+use Rattle.opcodes.proofs.rule_of.Tie as tie
 
 row-requires : tie.Need-row-requires
 row-requires c κs = search needs

@@ -9,8 +9,8 @@ use lib.Dec.{ltb, eqb}
 use lib.ListN.{length, drop}
 use Rattle.whole.specs.Lists.{part}
 use Rattle.octets.specs.Numbers.{number, inOctets, bigEndian, Octets}
-use Rattle.frame.specs.declared.reader.Place.{Place}
-use Rattle.frame.specs.declared.reader.Place.the-variants.{End, Found, Cut}
+use Rattle.tlvs.specs.declared.Place.{Place}
+use Rattle.tlvs.specs.declared.Place.the-variants.{End, Found, Cut}
 
 -- ── what is meant ──
 

@@ -1,6 +1,6 @@
 // The table of opcodes: one match that the reader and the box both use.
 ghost use mathlib.Core.Path.{_≡_};
-ghost use Rattle.frame.specs.Opcodes.{rule, ruleOf, known};
+ghost use Rattle.opcodes.specs.Opcodes.{rule, ruleOf, known, handled};
 
 // Who handles a message.
 pub enum Handler {
@@ -66,6 +66,24 @@ pub fn is_known(handler: Handler) -> bool
     match handler {
         Handler::Nobody => false,
         Handler::ReaderOnly => true,
+        Handler::Continuity => true,
+        Handler::Loopback => true,
+        Handler::Alarm => true,
+        Handler::Lock => true,
+        Handler::LossReply => true,
+        Handler::LossRequest => true,
+        Handler::DelayReply => true,
+        Handler::DelayRequest => true,
+    }
+}
+
+// Whether the box handles the message: any of the table but the loopback reply.
+pub fn is_handled(handler: Handler) -> bool
+    ensures { λ r. ⌜ r ≡ handled handler ⌝ }
+{
+    match handler {
+        Handler::Nobody => false,
+        Handler::ReaderOnly => false,
         Handler::Continuity => true,
         Handler::Loopback => true,
         Handler::Alarm => true,

@@ -67,7 +67,8 @@ fn start_timers(timers: &mut [u32; PEERS], count: u32, hold: u32)
     set_first(timers, count as usize, hold);
 }
 
-// Takes the settings that lie in the arrays: the state starts with them, or all of it is 0 where they are not valid.
+// Takes the settings that lie in the arrays: the state starts with them, or all of it is 0 where they are not valid. It takes no old state: lend
+// it spare arrays to try a setting beside a box that runs.
 pub fn new_setting(
     set: &mut [u32; 4],
     names: &mut [u8; 60],

@@ -4,6 +4,7 @@ use Prim.Native.Nat.{ℕ}
 use mathlib.Core.List.{List}
 use lib.IntN.{ℤ, pos}
 use lib.ListN.{getD}
+use denote.Ref.{RefT, now}
 use Rattle.settings.specs.Settings.{Settings, settingsOf}
 use Rattle.loss.specs.declared.LossSession.{LossSession}
 use Rattle.loss.specs.Session.{readings}
@@ -54,3 +55,7 @@ viewOf set names ids timers rdi run totals = record {
   received = getD run 8 0;
   session = sessionIn run totals;
 }
+
+-- the same of lent arrays, as they are at a moment
+abbrev pub lying : RefT (List ℕ) → RefT (List ℕ) → RefT (List ℕ) → RefT (List ℕ) → RefT (List ℕ) → RefT (List ℕ) → RefT (List ℤ) → State
+lying set names ids timers rdi run totals = viewOf (now set) (now names) (now ids) (now timers) (now rdi) (now run) (now totals)

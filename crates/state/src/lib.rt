@@ -1,7 +1,11 @@
 // What a box knows, where it lies, and when it is well formed. The state is lent in seven arrays; any content is a value, and what is not
 // well formed is refused by number.
+ghost use mathlib.Core.Bool.{cond};
 ghost use mathlib.Core.Path.{_≡_};
-ghost use lib.ListN.{getD, drop};
+ghost use lib.Dec.{ltb};
+ghost use lib.ListN.{drop};
+ghost use Rattle.whole.specs.Lists.{every};
+ghost use Rattle.words.specs.Words.{within};
 ghost use Rattle.state.specs.State.{sessionIn, viewOf};
 ghost use Rattle.state.specs.WellFormed.{timersGood, nextGood, slotsGood, wellFormed};
 use loss::LossSession;
@@ -103,22 +107,37 @@ fn next_good(next: u32, ticks: u32) -> bool
 }
 
 // Whether the slots' timers and RDIs are within their bounds, and unused slots have neither.
-fn slots_good(timers: &[u32], rdi: &[u32], count: u32, hold: u32) -> bool
+fn slots_good(timers: &[u32; PEERS], rdi: &[u32; PEERS], count: u32, hold: u32) -> bool
     ensures { λ r. ⌜ r ≡ slotsGood (now (timers .entry)) (now (rdi .entry)) count hold ⌝ }
 {
     let used = count as usize;
-    let bounded = all_within(timers, hold) & all_within(rest(timers, used), 0);
-    bounded & (all_within(rdi, 1) & all_within(rest(rdi, used), 0))
+    let bounded = all_within(timers, hold) & unused_empty(timers, used);
+    bounded & (all_within(rdi, 1) & unused_empty(rdi, used))
 }
 
-// What stands behind the used slots; nothing where there are fewer.
-fn rest(slots: &[u32], used: usize) -> &[u32]
-    ensures { λ r. ⌜ now r ≡ drop used (now (slots .entry)) ⌝ }
+// Whether every slot behind the used ones is 0. It looks at all slots, and joins words, not tests: a loop of a fixed length over words
+// becomes a few vector instructions.
+fn unused_empty(slots: &[u32; PEERS], used: usize) -> bool
+    ensures { λ r. ⌜ r ≡ every (within 0) (drop used (now (slots .entry))) ⌝ }
 {
-    if slots.len() < used {
-        return &slots[..0];
+    let all: &[u32] = slots;
+    let mut rest: u32 = 0;
+    let mut i: usize = 0;
+    while i < all.len() {
+        rest = rest | unused_word(i, used, all[i]);
+        i += 1;
     }
-    &slots[used..]
+    rest == 0
+}
+
+// A slot's word where the slot is not used, else 0.
+fn unused_word(slot: usize, used: usize, word: u32) -> u32
+    ensures { λ r. ⌜ r ≡ cond (ltb slot used) 0 word ⌝ }
+{
+    if slot < used {
+        return 0;
+    }
+    word
 }
 
 // Whether the state that lies in the arrays is well formed.

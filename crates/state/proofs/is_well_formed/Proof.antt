@@ -78,12 +78,12 @@ slots-good-requires c κs = search needs
 
 returns-4 : tie.Need-returns-4
 unfolding wellFormed
-returns-4 c = let a = c .before .before .before .before .before .before .before .before .before .before .before .before .before .before .before .before .args in
+returns-4 c = let a = c .before .before .before .before .before .before .before .before .before .before .before .before .before .before .args in
     let v = viewOf (now (a .set)) (now (a .names)) (now (a .ids)) (now (a .timers)) (now (a .rdi)) (now (a .run)) (now (a .totals)) in
-    let t = ap (timersGood v) (sym (c .before .before .before .before .before .before .before .before .before .before .before .before .hold-of .ensures)) ∙ sym (c .before .before .before .before .before .before .before .before .before .before .before .timers-good .ensures) ∙ not-false _ (c .before .before .before .before .before .before .before .before .before .before .if2 .left) in
-    let n = ap (nextGood (v .next)) (sym (c .before .before .before .before .before .before .before .ticks-of .ensures)) ∙ sym (c .before .before .before .before .before .before .next-good .ensures) ∙ not-false _ (c .before .before .before .before .before .if3 .left) in
-    let s = ap (slotsGood (v .timers) (v .rdi) (v .settings .count)) (sym (c .before .before .before .before .before .before .before .before .before .before .before .before .hold-of .ensures)) ∙ sym (c .before .slots-good .ensures) ∙ not-true _ (c .if4 .taken) in
-    fourth _ _ _ _ _ (sym (c .before .before .before .before .before .before .before .before .before .before .before .before .before .before .before .is-valid .ensures) ∙ not-false _ (c .before .before .before .before .before .before .before .before .before .before .before .before .before .before .if1 .left)) t n s
+    let t = ap (timersGood v) (sym (c .before .before .before .before .before .before .before .before .before .before .hold-of .ensures)) ∙ sym (c .before .before .before .before .before .before .before .before .before .timers-good .ensures) ∙ not-false _ (c .before .before .before .before .before .before .before .before .if2 .left) in
+    let n = ap (nextGood (v .next)) (sym (c .before .before .before .before .before .ticks-of .ensures)) ∙ sym (c .before .before .before .before .next-good .ensures) ∙ not-false _ (c .before .before .before .if3 .left) in
+    let s = ap (slotsGood (v .timers) (v .rdi) (v .settings .count)) (sym (c .before .before .before .before .before .before .before .before .before .before .hold-of .ensures)) ∙ sym (c .before .slots-good .ensures) ∙ not-true _ (c .if4 .taken) in
+    fourth _ _ _ _ _ (sym (c .before .before .before .before .before .before .before .before .before .before .before .before .before .is-valid .ensures) ∙ not-false _ (c .before .before .before .before .before .before .before .before .before .before .before .before .if1 .left)) t n s
 
 session-of-requires : tie.Need-session-of-requires
 session-of-requires c κs = search needs
@@ -93,12 +93,12 @@ well-formed-requires c κs = search needs
 
 returns-5 : tie.Need-returns-5
 unfolding wellFormed
-returns-5 c = let a = c .before .before .before .before .before .before .before .before .before .before .before .before .before .before .before .before .before .before .args in
+returns-5 c = let a = c .before .before .before .before .before .before .before .before .before .before .before .before .before .before .before .before .args in
     let v = viewOf (now (a .set)) (now (a .names)) (now (a .ids)) (now (a .timers)) (now (a .rdi)) (now (a .run)) (now (a .totals)) in
-    let t = ap (timersGood v) (sym (c .before .before .before .before .before .before .before .before .before .before .before .before .before .before .hold-of .ensures)) ∙ sym (c .before .before .before .before .before .before .before .before .before .before .before .before .before .timers-good .ensures) ∙ not-false _ (c .before .before .before .before .before .before .before .before .before .before .before .before .if2 .left) in
-    let n = ap (nextGood (v .next)) (sym (c .before .before .before .before .before .before .before .before .before .ticks-of .ensures)) ∙ sym (c .before .before .before .before .before .before .before .before .next-good .ensures) ∙ not-false _ (c .before .before .before .before .before .before .before .if3 .left) in
-    let s = ap (slotsGood (v .timers) (v .rdi) (v .settings .count)) (sym (c .before .before .before .before .before .before .before .before .before .before .before .before .before .before .hold-of .ensures)) ∙ sym (c .before .before .before .slots-good .ensures) ∙ not-false _ (c .before .before .if4 .left) in
-    last _ _ _ _ _ _ (sym (c .before .before .before .before .before .before .before .before .before .before .before .before .before .before .before .before .before .is-valid .ensures) ∙ not-false _ (c .before .before .before .before .before .before .before .before .before .before .before .before .before .before .before .before .if1 .left)) t n s (c .well-formed .ensures ∙ ap Session.wellFormed (c .before .session-of .ensures))
+    let t = ap (timersGood v) (sym (c .before .before .before .before .before .before .before .before .before .before .before .before .hold-of .ensures)) ∙ sym (c .before .before .before .before .before .before .before .before .before .before .before .timers-good .ensures) ∙ not-false _ (c .before .before .before .before .before .before .before .before .before .before .if2 .left) in
+    let n = ap (nextGood (v .next)) (sym (c .before .before .before .before .before .before .before .ticks-of .ensures)) ∙ sym (c .before .before .before .before .before .before .next-good .ensures) ∙ not-false _ (c .before .before .before .before .before .if3 .left) in
+    let s = ap (slotsGood (v .timers) (v .rdi) (v .settings .count)) (sym (c .before .before .before .before .before .before .before .before .before .before .before .before .hold-of .ensures)) ∙ sym (c .before .before .before .slots-good .ensures) ∙ not-false _ (c .before .before .if4 .left) in
+    last _ _ _ _ _ _ (sym (c .before .before .before .before .before .before .before .before .before .before .before .before .before .before .before .is-valid .ensures) ∙ not-false _ (c .before .before .before .before .before .before .before .before .before .before .before .before .before .before .if1 .left)) t n s (c .well-formed .ensures ∙ ap Session.wellFormed (c .before .session-of .ensures))
 
 pub is-well-formed-spec : {M : Type 1} → statement M
 is-well-formed-spec =

@@ -1,0 +1,4 @@
+pub mod Written
+pub mod Lmm
+pub mod Dmm
+pub mod One

@@ -1,0 +1,48 @@
+// The CCM that a state sends: our own address, MEG ID and MEP ID, and RDI where any condition stands.
+ghost use mathlib.Core.Path.{_≡_};
+ghost use lib.ListN.{length};
+ghost use Rattle.state.specs.State.{lying};
+ghost use Rattle.message.specs.Buffer.{writtenOf, bufferOf, told, numbersOf};
+ghost use Rattle.ccm.specs.Ccm.{ccmOf};
+use conditions::any_stands;
+use conditions::flag_of;
+use message::parts::Written;
+use message::sent::CcmValues;
+use message::sent::write_ccm;
+use settings::LEVEL;
+use settings::MEP;
+use settings::PEERS;
+use settings::PERIOD;
+
+// Writes the CCM of a state.
+pub fn write_own_ccm(
+    set: &[u32; 4],
+    names: &[u8; 60],
+    ids: &[u32; PEERS],
+    timers: &[u32; PEERS],
+    rdi: &[u32; PEERS],
+    run: &[u32; 15],
+    totals: &[i64; 2],
+    out: &mut [u8],
+) -> Written
+    ensures { λ r. ⌜ (r ≡ writtenOf (ccmOf (lying (set .entry) (names .entry) (ids .entry) (timers .entry) (rdi .entry) (run .entry) (totals .entry))) (now (out .entry))) × (told r ≡ numbersOf (ccmOf (lying (set .entry) (names .entry) (ids .entry) (timers .entry) (rdi .entry) (run .entry) (totals .entry))) (now (out .entry))) ⌝ }
+    ensures { λ _. ⌜ (now (out .exit) ≡ bufferOf (ccmOf (lying (set .entry) (names .entry) (ids .entry) (timers .entry) (rdi .entry) (run .entry) (totals .entry))) (now (out .entry))) × (length (ccmOf (lying (set .entry) (names .entry) (ids .entry) (timers .entry) (rdi .entry) (run .entry) (totals .entry))) ≡ 89) ⌝ }
+{
+    let stands = any_stands(set, names, ids, timers, rdi, run, totals);
+    let ccm = CcmValues {
+        level: set[LEVEL],
+        rdi: flag_of(stands),
+        period: set[PERIOD],
+        sequence: 0,
+        mep: set[MEP],
+        txfcf: 0,
+        rxfcb: 0,
+        txfcb: 0,
+    };
+    // a view of an array tells its length, and costs nothing
+    let _octets: &[u8] = names;
+    // a copy, which no caller's buffer can lie over: the MEG ID is then written by vector instructions and not octet by octet
+    let copied = *names;
+    let all: &[u8] = &copied;
+    write_ccm(out, &all[..6], &all[12..], ccm)
+}

@@ -1,0 +1,3 @@
+pub mod Ended
+pub mod Ticks
+pub mod One

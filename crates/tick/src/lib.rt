@@ -1,0 +1,100 @@
+// A tick: every timer is lowered, and on the last tick of a period a CCM is sent. Where its buffer is too short the tick has not passed.
+ghost use mathlib.Core.Path.{_≡_};
+ghost use Rattle.state.specs.State.{lying};
+ghost use Rattle.places.specs.Stored.{Whole};
+ghost use Rattle.tick.specs.Tick.{ended, tickOf, told, numbersOf};
+use ccm::write_own_ccm;
+use lower::pass_tick;
+use period::ticks_of;
+use settings::PEERS;
+use settings::PERIOD;
+use state::NEXT;
+use state::is_well_formed;
+
+// How long a CCM is.
+const CCM_LENGTH: usize = 89;
+
+// What a tick is answered.
+pub enum TickAnswer {
+    // Refusal 2: the state is not well formed.
+    NotWellFormed,
+    // Refusal 3: the period's last tick, and the buffer is shorter than a CCM.
+    NoRoom,
+    // The tick has passed, and nothing is to be sent.
+    Quiet,
+    // It has passed, and a CCM stands in the buffer's first 89 octets.
+    Sent,
+}
+
+// An answer in the paper's numbers: the refusal, or 0, and the message's length.
+#[repr(C)]
+pub struct TickTold {
+    pub refusal: u32,
+    pub length: usize,
+}
+
+// Lets a tick pass, and on the last of a period writes a CCM with the conditions that stand after it.
+pub fn tick(
+    set: &[u32; 4],
+    names: &[u8; 60],
+    ids: &[u32; PEERS],
+    timers: &mut [u32; PEERS],
+    rdi: &[u32; PEERS],
+    run: &mut [u32; 15],
+    totals: &[i64; 2],
+    out: &mut [u8],
+) -> TickAnswer
+    ensures { λ r. ⌜ (ended r (lying (set .entry) (names .entry) (ids .entry) (timers .exit) (rdi .entry) (run .exit) (totals .entry)) (now (out .exit)) ≡ tickOf (lying (set .entry) (names .entry) (ids .entry) (timers .entry) (rdi .entry) (run .entry) (totals .entry)) (now (out .entry))) × (told r ≡ numbersOf (lying (set .entry) (names .entry) (ids .entry) (timers .entry) (rdi .entry) (run .entry) (totals .entry)) (now (out .entry))) ⌝ }
+    ensures { λ _. ⌜ Whole (now (run .exit)) (now (totals .entry)) ⌝ }
+{
+    let _words: &[u32] = run;
+    let _both: &[i64] = totals;
+    if !is_well_formed(set, names, ids, timers, rdi, run, totals) {
+        return TickAnswer::NotWellFormed;
+    }
+    let left = run[NEXT];
+    if 1 < left {
+        pass_tick(set, names, ids, timers, rdi, run, totals, left - 1);
+        return TickAnswer::Quiet;
+    }
+    if out.len() < CCM_LENGTH {
+        return TickAnswer::NoRoom;
+    }
+    pass_tick(
+        set,
+        names,
+        ids,
+        timers,
+        rdi,
+        run,
+        totals,
+        ticks_of(set[PERIOD]),
+    );
+    // the answer is known: there is room
+    let _written = write_own_ccm(set, names, ids, timers, rdi, run, totals, out);
+    TickAnswer::Sent
+}
+
+// An answer in the paper's numbers.
+pub fn tell(answer: TickAnswer) -> TickTold
+    ensures { λ r. ⌜ r ≡ told answer ⌝ }
+{
+    match answer {
+        TickAnswer::NotWellFormed => TickTold {
+            refusal: 2,
+            length: 0,
+        },
+        TickAnswer::NoRoom => TickTold {
+            refusal: 3,
+            length: 0,
+        },
+        TickAnswer::Quiet => TickTold {
+            refusal: 0,
+            length: 0,
+        },
+        TickAnswer::Sent => TickTold {
+            refusal: 0,
+            length: CCM_LENGTH,
+        },
+    }
+}

@@ -1,0 +1,50 @@
+-- The session is read, updated by the rule, and put back. Assumes nothing.
+use mathlib.Core.Path.{_≡_, sym, ap, ap₂, _∙_}
+use denote.Ref.{now}
+use Rattle.loss.specs.declared.LossSession.{LossSession}
+use Rattle.loss.specs.Session.{readings, afterReading}
+use Rattle.state.specs.State.{viewOf}
+use Rattle.change.specs.Change.{ended, taken}
+use borrow.Author.Needs.{needs}
+use Rattle.change.proofs.take_counts.Statement.{statement}
+use Rattle.change.proofs.take_counts.Tie as tie
+use Rattle.change.proofs.take_counts.Reads as reads
+use Rattle.change.proofs.take_counts.Lts as lts
+use Rattle.change.proofs.answer_of.Reads as answer-of-reads
+use Rattle.loss.proofs.take_reading.Reads as take-reading-reads
+use Rattle.places.proofs.put_session.Reads as put-session-reads
+use Rattle.state.proofs.session_of.Reads as session-of-reads
+
+element-copy-out-t17 : tie.Need-element-copy-out-t17
+element-copy-out-t17 c = search needs
+
+session-of-requires : tie.Need-session-of-requires
+session-of-requires c κs = search needs
+
+take-reading-requires : tie.Need-take-reading-requires
+take-reading-requires c κs = search needs
+
+put-session-requires : tie.Need-put-session-requires
+put-session-requires c κs = search needs
+
+answer-of-requires : tie.Need-answer-of-requires
+answer-of-requires c κs = search needs
+
+returns : tie.Need-returns
+returns c = let a = c .before .before .before .before .before .before .before .before .before .before .args in
+    let s = viewOf (now (a .set)) (now (a .names)) (now (a .ids)) (now (a .timers)) (now (a .rdi)) (now (a .run)) (now (a .totals)) in (
+      ap₂ ended (c .answer-of .ensures) (c .before .put-session .ensures .0)
+          ∙ ap (taken s) (c .before .before .before .before .before .take-reading .ensures .0 ∙ ap (λ (x : LossSession). afterReading x (readings (a .txf) (a .rxf) (a .txb) (s .received))) (c .before .before .before .before .before .before .session-of .ensures)),
+      c .before .put-session .ensures .1,
+    )
+
+pub take-counts-spec : {M : Type 1} → statement M
+take-counts-spec =
+    tie.close
+    (tie.spec
+    element-copy-out-t17
+    session-of-requires
+    take-reading-requires
+    put-session-requires
+    answer-of-requires
+    returns)

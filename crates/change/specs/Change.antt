@@ -1,0 +1,50 @@
+-- What a change leaves, and what the frame is answered. The paper, rule 1: a service frame adds one to its side's count, wrapping to 0 after
+-- 4,294,967,295; rule 3: D2, and the unexpected-level timer is set; rule 5; rule 7: readings are the reply's three counts and our received
+-- count. Definitions only.
+use Prim.Native.Nat.{ℕ, _+_, _%_, _^_}
+use Rattle.loss.specs.declared.LossAnswer.{LossAnswer}
+use Rattle.loss.specs.declared.LossAnswer.the-variants as loss
+use Rattle.loss.specs.declared.Updated.{Updated}
+use Rattle.loss.specs.Session.{readings, afterReading}
+use Rattle.state.specs.State.{State}
+use Rattle.state.specs.Changed.{put, withSession}
+use Rattle.state.specs.Changed as word
+use Rattle.state.specs.WellFormed.{ownMost}
+use Rattle.answers.specs.declared.Drop.the-variants.{Level}
+use Rattle.answers.specs.declared.FrameAnswer.{FrameAnswer}
+use Rattle.answers.specs.declared.FrameAnswer.the-variants.{NotWellFormed, Full, Dropped, Passed, Taken, First, Measured}
+use Rattle.signals.specs.Signals.{signalled}
+use Rattle.change.specs.declared.Change.{Change}
+use Rattle.change.specs.declared.Change.the-variants.{Sent, Received, UnexpectedLevel, Told, Reading}
+
+-- an answer and the state after it
+pub record Ended : Type 0 where
+  pub answer : FrameAnswer
+  pub state : State
+
+abbrev pub ended : FrameAnswer → State → Ended
+ended answer state = record { answer = answer; state = state }
+
+unfoldable pub answerOf : LossAnswer → FrameAnswer
+answerOf loss.NotWellFormed = NotWellFormed
+answerOf loss.Full = Full
+answerOf loss.First = First
+answerOf (loss.Measured near far) = Measured near far
+
+-- an updated session, and its answer
+abbrev pub taken : State → Updated → Ended
+taken s u = ended (answerOf (u .answer)) (withSession (u .session) s)
+
+abbrev pub readTaken : State → ℕ → ℕ → ℕ → Ended
+readTaken s txf rxf txb = taken s (afterReading (s .session) (readings txf rxf txb (s .received)))
+
+-- one more frame, wrapping
+abbrev pub oneMore : ℕ → ℕ
+oneMore n = (n + 1) % 2 ^ 32
+
+unfoldable pub applied : State → Change → Ended
+applied s Sent = ended Passed (put word.sent (oneMore (s .sent)) s)
+applied s Received = ended Passed (put word.received (oneMore (s .received)) s)
+applied s UnexpectedLevel = ended (Dropped Level) (put word.unexpected-level (ownMost s) s)
+applied s (Told signal) = ended Taken (signalled s signal)
+applied s (Reading txf rxf txb) = readTaken s txf rxf txb

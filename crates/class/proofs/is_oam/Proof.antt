@@ -1,0 +1,26 @@
+-- The EtherType is read where there is one. Assumes nothing.
+use Prim.Native.Nat.{ℕ}
+use lib.Dec.{eqb}
+use mathlib.Core.Path.{_≡_, refl, sym, ap, _∙_}
+use native.Mathlib.Omega.{arith}
+use borrow.Author.Tests.{lt-ltb, le-ltb, lt-leb, le-leb, not-false, not-true}
+use denote.Ref.{now}
+use lib.ListN.{length}
+use borrow.Author.Needs.{needs}
+use Rattle.class.proofs.is_oam.Statement.{statement}
+use Rattle.class.proofs.is_oam.Tie as tie
+use Rattle.class.proofs.is_oam.Reads as reads
+use Rattle.class.proofs.is_oam.Lts as lts
+use Rattle.octets.proofs.numbers.read_big.Reads as read-big-reads
+
+returns : tie.Need-returns
+returns c = rw (lt-leb _ _ (c .if1 .taken))
+
+read-big-requires : tie.Need-read-big-requires
+read-big-requires c κs = search needs
+
+returns-2 : tie.Need-returns-2
+returns-2 c = rw (le-leb _ _ (c .before .if1 .left)) (ap (λ (x : ℕ). eqb x 0x8902) (c .read-big .ensures .is))
+
+pub is-oam-spec : {M : Type 1} → statement M
+is-oam-spec = tie.close (tie.spec returns read-big-requires returns-2)

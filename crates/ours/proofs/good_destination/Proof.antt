@@ -1,0 +1,21 @@
+-- Both tests as they are found. Assumes nothing.
+use mathlib.Core.Path.{_≡_, refl, sym, ap, _∙_}
+use borrow.Author.Needs.{needs}
+use Rattle.ours.proofs.good_destination.Statement.{statement}
+use Rattle.ours.proofs.good_destination.Tie as tie
+use Rattle.ours.proofs.good_destination.Reads as reads
+use Rattle.ours.proofs.good_destination.Lts as lts
+use Rattle.address.proofs.is_multicast.Reads as is-multicast-reads
+use Rattle.octets.proofs.parts.same_octets.Reads as same-octets-reads
+
+same-octets-requires : tie.Need-same-octets-requires
+same-octets-requires c κs = search needs
+
+is-multicast-requires : tie.Need-is-multicast-requires
+is-multicast-requires c κs = search needs
+
+returns : tie.Need-returns
+returns c = rw (c .before .same-octets .ensures, c .is-multicast .ensures)
+
+pub good-destination-spec : {M : Type 1} → statement M
+good-destination-spec = tie.close (tie.spec same-octets-requires is-multicast-requires returns)

@@ -1,0 +1,21 @@
+-- Both tests as they are found. Assumes nothing.
+use mathlib.Core.Path.{_≡_, refl, sym, ap, _∙_}
+use borrow.Author.Needs.{needs}
+use Rattle.ours.proofs.good_source.Statement.{statement}
+use Rattle.ours.proofs.good_source.Tie as tie
+use Rattle.ours.proofs.good_source.Reads as reads
+use Rattle.ours.proofs.good_source.Lts as lts
+use Rattle.octets.proofs.parts.same_octets.Reads as same-octets-reads
+use Rattle.ours.proofs.has_group_bit.Reads as has-group-bit-reads
+
+same-octets-requires : tie.Need-same-octets-requires
+same-octets-requires c κs = search needs
+
+has-group-bit-requires : tie.Need-has-group-bit-requires
+has-group-bit-requires c κs = search needs
+
+returns : tie.Need-returns
+returns c = rw (c .before .same-octets .ensures, c .has-group-bit .ensures)
+
+pub good-source-spec : {M : Type 1} → statement M
+good-source-spec = tie.close (tie.spec same-octets-requires has-group-bit-requires returns)

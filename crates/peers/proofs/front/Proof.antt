@@ -1,0 +1,28 @@
+-- The used slots in front, or all. Assumes nothing.
+use mathlib.Core.Path.{_≡_, refl, sym, ap, _∙_}
+use native.Mathlib.Omega.{arith}
+use denote.Ref.{now}
+use lib.ListN.{length}
+use borrow.Author.Tests.{lt-ltb, le-ltb, lt-leb, le-leb, eq-eqb, ne-eqb, not-false, not-true}
+use Prim.Native.Nat.{_≤_}
+use lib.Seq.{length-take-le, take-all}
+use borrow.Author.Needs.{needs}
+use Rattle.peers.proofs.front.Statement.{statement}
+use Rattle.peers.proofs.front.Tie as tie
+use Rattle.peers.proofs.front.Reads as reads
+use Rattle.peers.proofs.front.Lts as lts
+
+returns : tie.Need-returns
+returns c = let a = c .before .args in
+    let short : length (now (a .slots)) ≤ a .count = omega arith in
+    sym (take-all (a .count) (now (a .slots)) short)
+
+slice-aggregate-result : tie.Need-slice-aggregate-result
+slice-aggregate-result c = let a = c .before .before .args in
+    sym (length-take-le (a .count) (now (a .slots)) (omega arith))
+
+returns-2 : tie.Need-returns-2
+returns-2 c = search needs
+
+pub front-spec : {M : Type 1} → statement M
+front-spec = tie.close (tie.spec returns slice-aggregate-result returns-2)

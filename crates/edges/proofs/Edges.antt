@@ -9,8 +9,9 @@ use Rattle.loss.specs.Session.{readings, wellFormed, afterReading}
 use Rattle.loss.specs.Told.{told}
 use Rattle.account.specs.Demand3.{answers}
 use Rattle.delay.specs.Told.{numbersOf}
-use Rattle.edges.specs.Table.{loses, fourMore, oneLess, Edges}
+use Rattle.edges.specs.Table.{loses, Edges}
 use Rattle.edges.proofs.Offsets.{four-more, one-less}
+use Rattle.edges.proofs.Silence.{six, seven}
 use lib.IntN.{pos, negsuc}
 
 still-row : (still : ℕ) → still < 2 ^ 32 → loses (readings 0 0 still 0) (readings 0 0 still 4294967295) (pos 0) (negsuc 4294967294)
@@ -21,4 +22,4 @@ still-row still h =
 
 pub edges : Edges
 unfolding answers afterReading choose wellFormed told numbersOf every
-edges = (λ rest. (refl, refl), (λ rest. (refl, refl), (refl, (refl, (refl, (still-row, (refl, (refl, (refl, (four-more, (one-less, tt)))))))))))
+edges = (λ rest. (refl, refl), (λ rest. (refl, refl), (refl, (refl, (refl, (still-row, (six, (seven, (refl, (refl, (refl, (four-more, (one-less, tt)))))))))))))

@@ -1,7 +1,7 @@
 -- The rows on a CCM's offset: four octets more before the TLVs change nothing, one less is D4. Assumes nothing.
 use Prim.Native.Nat.{ℕ, _+_, _/_, _%_, _≤_}
 use mathlib.Core.Path.{_≡_, refl, sym, ap, ap₂, _∙_, subst}
-use mathlib.Core.Bool.{Bool, true, cond}
+use mathlib.Core.Bool.{Bool, cond}
 use mathlib.Core.List.{List, [], _∷_, _++_, append-assoc}
 use native.Mathlib.Omega.{arith}
 use lib.ListN.{length, drop, length-append}
@@ -14,22 +14,20 @@ use Rattle.whole.proofs.Apart.{part-front}
 use Rattle.whole.proofs.Lists.{part-behind}
 use Rattle.bits.specs.Fields.{firstOctet, mepId}
 use Rattle.octets.specs.Numbers.{number, bigEndian}
-use Rattle.frame.specs.declared.reader.TlvAnswer.{TlvAnswer}
+use Rattle.opcodes.specs.Opcodes.{ruleOf}
 use Rattle.frame.specs.declared.reader.TlvTold.{TlvTold}
 use Rattle.frame.specs.Head.{etherTypeOf, pduOf, opcodeOf, flagsOf, offsetOf}
-use Rattle.frame.specs.Opcodes.{ruleOf}
 use Rattle.frame.specs.Reader.{answerOf}
 use Rattle.frame.specs.Told as Reader
 use Rattle.frame.proofs.Numbers.{agree}
-use Rattle.incoming.specs.declared.MessageTold.{MessageTold}
 use Rattle.incoming.specs.Good.{Headed, tlvsOf}
-use Rattle.incoming.specs.Message.{periodCode, judgedOf, unlessBad, messageOf}
+use Rattle.incoming.specs.Message.{judgedOf, unlessBad, messageOf}
 use Rattle.incoming.specs.Told.{behind, goodOpcode}
 use Rattle.incoming.proofs.Goods.{good-frames}
 use Rattle.incoming.proofs.Shape.{framed, pdu-is, ether-is, framed-long, headed}
 use Rattle.fields.specs.declared.CcmFields.{CcmFields}
-use Rattle.fields.specs.Fixed.{word, ccmIn, noCcm, ccmOf, megIn, megOf}
-use Rattle.edges.specs.Table.{ccmFrame, SameMessage, fourMore, oneLess}
+use Rattle.fields.specs.Fixed.{ccmIn, noCcm, ccmOf, megIn, megOf}
+use Rattle.edges.specs.Table.{fourMore, oneLess}
 
 -- a CCM's fields from its flags and its fixed part alone
 record From (flags : ℕ) (fixed pdu : List ℕ) : Type 0 where

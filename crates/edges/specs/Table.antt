@@ -5,8 +5,14 @@ use mathlib.Core.Path.{_≡_}
 use mathlib.Core.Bool.{true}
 use mathlib.Core.List.{List, [], _∷_, _++_, map}
 use lib.IntN.{ℤ, pos, negsuc}
-use lib.ListN.{length}
+use lib.ListN.{length, getD, replicate}
 use Rattle.whole.specs.Lists.{part}
+use Rattle.clock.specs.Run.{after}
+use Rattle.settings.specs.Settings.{Settings, slots}
+use Rattle.settings.specs.Valid.{Valid}
+use Rattle.start.specs.Start.{startOf}
+use Rattle.conditions.specs.Conditions.{conditionsOf}
+use Rattle.tick.specs.Tick.{tickOf}
 use Rattle.bits.specs.Fields.{firstOctet, mepId}
 use Rattle.octets.specs.Numbers.{number, bigEndian}
 use Rattle.loss.specs.declared.Readings.{Readings}
@@ -45,6 +51,13 @@ at seconds nanoseconds = record { seconds = seconds; nanoseconds = nanoseconds }
 -- TxTimeStampf, RxTimeStampf, TxTimeStampb and the receive stamp are told these delays
 abbrev pub takes : Stamp → Stamp → Stamp → Stamp → ℤ → ℤ → ℤ → Type 0
 takes txf rxf txb here twoway far near = Delay.numbersOf txf rxf txb here ≡ Delay.results twoway far near
+
+-- a new setting of period code 1, no CCM, and so many ticks with room for ours: conditions are not refused, and tell this of each peer's loss
+-- of continuity
+abbrev pub silent : ℕ → ℕ → Type 0
+silent ticks told = (t : Settings) (buffer : List ℕ) (slot : ℕ) → Valid t → t .period ≡ 1 → 89 ≤ length buffer → slot < t .count → slot < slots
+    → (conditionsOf (after (λ s b. tickOf s b .state) (startOf t) (replicate ticks buffer)) .refusal ≡ 0)
+    × (getD (conditionsOf (after (λ s b. tickOf s b .state) (startOf t) (replicate ticks buffer)) .conditions .lost) slot 0 ≡ told)
 
 -- a CCM's frame: addresses, 89-02, level and version, opcode 1, flags, TLV offset, and the octets behind it
 abbrev pub ccmFrame : List ℕ → ℕ → ℕ → ℕ → List ℕ → List ℕ
@@ -93,6 +106,8 @@ table =
     ∷ grows 5 5 0
     ∷ loses (readings 100 100 50 50) (readings 200 198 60 61) (pos 2) (negsuc 0)
     ∷ ((still : ℕ) → still < 2 ^ 32 → loses (readings 0 0 still 0) (readings 0 0 still 4294967295) (pos 0) (negsuc 4294967294))
+    ∷ silent 6 0
+    ∷ silent 7 1
     ∷ takes (at 10 0) (at 10 400) (at 10 900) (at 10 1200) (pos 700) (pos 400) (pos 300)
     ∷ takes (at 10 0) notGiven notGiven (at 10 1200) (pos 1200) (pos 0) (pos 0)
     ∷ takes (at 10 0) notGiven notGiven (at 9 999999999) (negsuc 0) (pos 0) (pos 0)

@@ -84,6 +84,7 @@ pub fn flag_of(holds: bool) -> u32
 fn mark_lost(lost: &mut [u32; PEERS], timers: &[u32; PEERS], count: u32)
     ensures { λ _. ⌜ now (lost .exit) ≡ table (lostAt count (now (timers .entry))) slots ⌝ }
 {
+    // a view of the array tells its length, and costs nothing
     let _all: &[u32] = lost;
     let used = count as usize;
     let mut i: usize = 0;

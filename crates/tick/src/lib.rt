@@ -47,6 +47,7 @@ pub fn tick(
     ensures { λ r. ⌜ (ended r (lying (set .entry) (names .entry) (ids .entry) (timers .exit) (rdi .entry) (run .exit) (totals .entry)) (now (out .exit)) ≡ tickOf (lying (set .entry) (names .entry) (ids .entry) (timers .entry) (rdi .entry) (run .entry) (totals .entry)) (now (out .entry))) × (told r ≡ numbersOf (lying (set .entry) (names .entry) (ids .entry) (timers .entry) (rdi .entry) (run .entry) (totals .entry)) (now (out .entry))) ⌝ }
     ensures { λ _. ⌜ Whole (now (run .exit)) (now (totals .entry)) ⌝ }
 {
+    // a view of an array tells its length, and costs nothing
     let _words: &[u32] = run;
     let _both: &[i64] = totals;
     if !is_well_formed(set, names, ids, timers, rdi, run, totals) {

@@ -124,7 +124,7 @@ macro_rules! compiled {
 }
 
 // `shapes.rs` is written by `run`: the compiled programs, and `all!(f)`, which calls f once for each of them.
-include!("../target/bench/shapes.rs");
+include!("../../target/bench/shapes.rs");
 
 const REPEATS: usize = 41;
 const CALLS: usize = 20_000;

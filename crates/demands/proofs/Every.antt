@@ -204,7 +204,7 @@ module _ (s : State) (a : Arrival) (w : Octets (a .octets)) where
       (λ c.
       let r = ends-run (pdu a) (startOf (pdu a)) (behind (a .octets) 14 w) c in
       split (isOurs (s .settings .own) (s .settings .losspeer) (a .octets))
-      (λ o. sound-own l (record { least = row .0; handled = row .1; offset = enough; tlvs = r; destination = ours-then s a o }) (which (row .1)))
+      (λ o. sound-own l (record { least = row .0; handled = row .1; offset = enough; tlvs = λ n. n (r .0) (r .1); destination = ours-then s a o }) (which (row .1)))
       (λ o. (_, said.rule-4-D6 a (row .0) l (row .1) enough (λ n. n (r .0) (r .1)) (not-ours-then s a o))))))
       (λ h. (_, said.rule-4-D3 a l (λ least r. clash (row-handled r) h)))
 

@@ -35,7 +35,7 @@ use Rattle.demands.specs.Calls as call
 use Rattle.demands.specs.Calls.{Arrival, Outcome}
 use Rattle.demands.specs.Cases.{pdu, opcode, Heeded, OwnLevel, Handled, D5, D6, Sound}
 use Rattle.demands.specs.Ours.{sideOf, afterFrame, ours}
-use Rattle.demands.proofs.Messages.{offset-bad, cut-off, judged, run-ends, no-run-cuts, behind}
+use Rattle.demands.proofs.Messages.{offset-bad, cut-off, judged, no-run-cuts, uncut, behind}
 use Rattle.demands.proofs.Rows.{row-least, row-handled, row-known, no-row}
 use Rattle.demands.proofs.Sixth.{ours-yes, ours-no}
 
@@ -96,18 +96,10 @@ module _ (s : State) (a : Arrival) where
         whole-message : isCut (walkFrom 0 (startOf (pdu a)) (pdu a)) ≡ false → messageOf (a .octets) ≡ judgedOf (opcode a) (flagsOf (pdu a))
         whole-message c = judged (a .octets) (w .oam .heeded .long .least) (w .oam .heeded .long .most) (w .oam .ether) (w .oam .head) (row-known h) enough c
 
-        -- not D5: the walk to the end is not cut
-        uncut : (D5 a → ⊥) → isCut (walkFrom 0 (startOf (pdu a)) (pdu a)) ≡ false
-        uncut n =
-            ⊎-elim
-            (λ (t : isCut (walkFrom 0 (startOf (pdu a)) (pdu a)) ≡ true). absurd (n (λ ts r. true≢false (sym t ∙ run-ends (pdu a) (startOf (pdu a)) ts r))))
-            (λ (t : isCut (walkFrom 0 (startOf (pdu a)) (pdu a)) ≡ false). t)
-            (if-known (isCut (walkFrom 0 (startOf (pdu a)) (pdu a))))
-
         pub sixth : (D5 a → ⊥) → D6 s a → ownOf (s .settings) (a .octets) (a .receive) ≡ Drops drop.Destination
         unfolding judgedOf
         sixth n d =
-            let m = whole-message (uncut n) in
+            let m = whole-message (uncut (pdu a) (startOf (pdu a)) n) in
             let no = ours-no s a d in
             ⊎-elim
             (λ (t : codeGood (ruleOf (opcode a) .handler) (periodCode (flagsOf (pdu a))) ≡ true).
@@ -119,7 +111,7 @@ module _ (s : State) (a : Arrival) where
     -- ── a sound message of our level ──
     module _ (q : Sound s a) where
       sound-message : messageOf (a .octets) ≡ judgedOf (opcode a) (flagsOf (pdu a))
-      sound-message = whole-message (q .handled) (q .offset) (run-ends (pdu a) (startOf (pdu a)) (q .tlvs .0) (q .tlvs .1))
+      sound-message = whole-message (q .handled) (q .offset) (uncut (pdu a) (startOf (pdu a)) (q .tlvs))
 
       pub seventh : judgedOf (opcode a) (flagsOf (pdu a)) ≡ PeriodCode → ownOf (s .settings) (a .octets) (a .receive) ≡ Drops drop.Value
       seventh e = found-code (s .settings) (a .octets) (a .receive) (row-handled (q .handled)) (sound-message ∙ e) ∙ rw (ours-yes s a (q .destination))

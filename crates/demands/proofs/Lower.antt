@@ -21,7 +21,7 @@ use Rattle.decide.specs.declared.Decision.the-variants.{Drops, Changes}
 use Rattle.decide.specs.Decide.{isOurs, belowOf}
 use Rattle.demands.specs.Calls.{Arrival}
 use Rattle.demands.specs.Cases.{pdu, opcode, Oam, Handled, ccm, Sound, GoodCcm}
-use Rattle.demands.proofs.Messages.{headed, run-ends, ends-run, behind}
+use Rattle.demands.proofs.Messages.{headed, uncut, ends-run, behind}
 use Rattle.demands.proofs.Rows.{row-least, row-known}
 use Rattle.demands.proofs.Sixth.{ours-yes, ours-then}
 use Rattle.demands.proofs.Stamps.{untrue}
@@ -30,7 +30,7 @@ use Rattle.demands.proofs.Stamps.{untrue}
 pub sound-good : (s : State) (a : Arrival) → Oam s a → Sound s a → Good (a .octets)
 sound-good s a o q = record {
   headed = headed (a .octets) (o .heeded .long .least) (o .heeded .long .most) (o .ether) (o .head) (row-known (q .handled)) (rw (row-least (q .handled)) (q .offset));
-  ends = run-ends (pdu a) (startOf (pdu a)) (q .tlvs .0) (q .tlvs .1);
+  ends = uncut (pdu a) (startOf (pdu a)) (q .tlvs);
 }
 
 -- the code of a CCM
@@ -72,7 +72,7 @@ module _ (s : State) (a : Arrival) (o : Oam s a) where
           least = 70;
           handled = as-ccm (opcode a) op;
           offset = omega (arith, g .0 .headed .offset, least-ccm (opcode a) op);
-          tlvs = ends-run (pdu a) (startOf (pdu a)) (behind (a .octets) 14 w) (g .0 .ends);
+          tlvs = λ n. let r = ends-run (pdu a) (startOf (pdu a)) (behind (a .octets) 14 w) (g .0 .ends) in n (r .0) (r .1);
           destination = ours-then s a (p .1);
         };
         ccm = op;

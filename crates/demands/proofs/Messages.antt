@@ -1,7 +1,7 @@
 -- Which message a frame is, from the paper's conditions on its octets. Assumes nothing.
 use Prim.Native.Nat.{ℕ, _+_, _≤_, _<_}
 use mathlib.Core.Path.{_≡_, refl, sym, ap, _∙_}
-use mathlib.Core.Bool.{true, false, false≢true}
+use mathlib.Core.Bool.{true, false, false≢true, true≢false}
 use mathlib.Core.List.{List}
 use mathlib.Core.Logic.{⊎-elim}
 use native.Mathlib.Omega.{arith}
@@ -47,6 +47,14 @@ module _ (p : List ℕ) (at : ℕ) where
       let e = ended (walkFrom 0 at p) t (not-found 0 (drop at p) at) in
       let s = walk-agrees .stands p at (e .0) o (e .1) in
       absurd (n (s .0) (s .1)))
+      (if-known (isCut (walkFrom 0 at p)))
+
+  -- where there is not no run, the walk is not cut
+  pub uncut : (((ts : List (ℕ × List ℕ)) → Tlvs (drop at p) ts → ⊥) → ⊥) → isCut (walkFrom 0 at p) ≡ false
+  uncut n =
+      ⊎-elim
+      (λ (t : isCut (walkFrom 0 at p) ≡ true). absurd (n (λ ts r. true≢false (sym t ∙ run-ends ts r))))
+      (λ (t : isCut (walkFrom 0 at p) ≡ false). t)
       (if-known (isCut (walkFrom 0 at p)))
 
   -- an end that is found leaves a run

@@ -12,9 +12,10 @@ use Rattle.delay.specs.declared.Stamp.{Stamp}
 use Rattle.settings.specs.Valid.{groupBit}
 use Rattle.state.specs.State.{State}
 use Rattle.state.specs.WellFormed.{WellFormed}
-use Rattle.frame.specs.Head.{destinationOf, sourceOf, etherTypeOf, pduOf, levelOf, opcodeOf, offsetOf, startOf}
+use Rattle.frame.specs.Head.{destinationOf, sourceOf, etherTypeOf, pduOf, levelOf, opcodeOf, flagsOf, offsetOf, startOf}
 use Rattle.tlvs.specs.Tlvs.{Tlvs}
 use Rattle.address.specs.Multicast.{multicastOf}
+use Rattle.incoming.specs.Message.{periodCode}
 use Rattle.fields.specs.Fixed.{ccmIn, megIn, delayIn}
 use lib.ListN.{drop}
 use Rattle.demands.specs.Calls.{active, Arrival}
@@ -114,12 +115,12 @@ pub record Sound (s : State) (a : Arrival) : Type 0 where
   pub least : ℕ
   pub handled : Handled (opcode a) least
   pub offset : least ≤ offsetOf (pdu a)
-  pub tlvs : (ts : List (ℕ × List ℕ)) × Tlvs (drop (startOf (pdu a)) (pdu a)) ts
+  pub tlvs : D5 a → ⊥
   pub destination : D6 s a → ⊥
 
 -- the code in the low three flag bits
 abbrev pub code : Arrival → ℕ
-code a = ccmIn (pdu a) .period
+code a = periodCode (flagsOf (pdu a))
 
 -- a CCM that passes D4 to D7, of any level
 pub record GoodCcm (s : State) (a : Arrival) : Type 0 where

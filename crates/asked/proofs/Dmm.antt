@@ -18,7 +18,7 @@ use Rattle.delay.specs.Stamps.{good, notGiven}
 use Rattle.message.specs.declared.parts.Written.{Written}
 use Rattle.message.specs.declared.parts.Written.the-variants as written
 use Rattle.message.specs.Buffer.{writtenOf, bufferOf}
-use Rattle.message.proofs.Laid.{dmm-long}
+use Rattle.requests.proofs.Laid.{dmm-long}
 use Rattle.asked.specs.declared.DmmAnswer.{DmmAnswer}
 use Rattle.asked.specs.declared.DmmAnswer.the-variants.{NotWellFormed, BadStamp, NoRoom, Sent}
 use Rattle.asked.specs.Dmm.{dmmOf, DmmEnd, dmmEnded, sendDmm, dmmTold, dmmNumbers, SendsDmm}

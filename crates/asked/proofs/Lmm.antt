@@ -16,7 +16,7 @@ use Rattle.state.proofs.Rules.{well-formed-is}
 use Rattle.message.specs.declared.parts.Written.{Written}
 use Rattle.message.specs.declared.parts.Written.the-variants as written
 use Rattle.message.specs.Buffer.{writtenOf, bufferOf}
-use Rattle.message.proofs.Laid.{lmm-long}
+use Rattle.requests.proofs.Laid.{lmm-long}
 use Rattle.asked.specs.declared.LmmAnswer.{LmmAnswer}
 use Rattle.asked.specs.declared.LmmAnswer.the-variants.{NotWellFormed, NoRoom, Sent}
 use Rattle.asked.specs.Lmm.{lmmOf, LmmEnd, lmmEnded, sendLmm, lmmTold, lmmNumbers, SendsLmm}

@@ -12,7 +12,7 @@ use Rattle.state.specs.State.{State}
 use Rattle.state.specs.WellFormed.{WellFormed, wellFormed}
 use Rattle.delay.specs.declared.Stamp.{Stamp}
 use Rattle.delay.specs.Stamps.{good, notGiven}
-use Rattle.message.specs.Messages.{dmmOctets}
+use Rattle.requests.specs.Requests.{dmmOctets}
 use Rattle.asked.specs.declared.DmmAnswer.{DmmAnswer}
 use Rattle.asked.specs.declared.DmmAnswer.the-variants.{NotWellFormed, BadStamp, NoRoom, Sent}
 use Rattle.asked.specs.declared.SendTold.{SendTold}

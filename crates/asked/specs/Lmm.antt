@@ -10,7 +10,7 @@ use Rattle.whole.specs.Tests.{choose}
 use Rattle.whole.specs.Lists.{laid}
 use Rattle.state.specs.State.{State}
 use Rattle.state.specs.WellFormed.{WellFormed, wellFormed}
-use Rattle.message.specs.Messages.{lmmOctets}
+use Rattle.requests.specs.Requests.{lmmOctets}
 use Rattle.asked.specs.declared.LmmAnswer.{LmmAnswer}
 use Rattle.asked.specs.declared.LmmAnswer.the-variants.{NotWellFormed, NoRoom, Sent}
 use Rattle.asked.specs.declared.SendTold.{SendTold}

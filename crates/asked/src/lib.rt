@@ -1,17 +1,13 @@
 // What the caller asks to be sent to the loss peer: an LMM or a DMM. The state is only read.
 ghost use mathlib.Core.Path.{_≡_};
-ghost use lib.ListN.{length};
-ghost use Rattle.settings.specs.Settings.{addressAt};
 ghost use Rattle.state.specs.State.{lying};
-ghost use Rattle.message.specs.Buffer.{writtenOf, bufferOf};
-ghost use Rattle.message.specs.Messages.{lmmOctets, dmmOctets};
 ghost use Rattle.asked.specs.Lmm.{lmmEnded, sendLmm, lmmTold, lmmNumbers};
 ghost use Rattle.asked.specs.Dmm.{dmmEnded, sendDmm, dmmTold, dmmNumbers};
 use delay::Stamp;
 use delay::good_stamp;
 use message::parts::Written;
-use message::sent::write_dmm;
-use message::sent::write_lmm;
+use requests::write_dmm;
+use requests::write_lmm;
 use settings::LEVEL;
 use settings::PEERS;
 use state::SENT;
@@ -51,24 +47,6 @@ pub struct SendTold {
     pub length: usize,
 }
 
-// Writes an LMM from our own address to the loss peer's.
-fn lmm_between(names: &[u8; 60], level: u32, sent: u32, out: &mut [u8]) -> Written
-    ensures { λ r. ⌜ (r ≡ writtenOf (lmmOctets (addressAt 6 (now (names .entry))) (addressAt 0 (now (names .entry))) level sent) (now (out .entry))) × (now (out .exit) ≡ bufferOf (lmmOctets (addressAt 6 (now (names .entry))) (addressAt 0 (now (names .entry))) level sent) (now (out .entry))) ⌝ }
-    ensures { λ _. ⌜ length (lmmOctets (addressAt 6 (now (names .entry))) (addressAt 0 (now (names .entry))) level sent) ≡ 31 ⌝ }
-{
-    let all: &[u8] = names;
-    write_lmm(out, &all[6..12], &all[..6], level, sent)
-}
-
-// Writes a DMM from our own address to the loss peer's.
-fn dmm_between(names: &[u8; 60], level: u32, stamp: Stamp, out: &mut [u8]) -> Written
-    ensures { λ r. ⌜ (r ≡ writtenOf (dmmOctets (addressAt 6 (now (names .entry))) (addressAt 0 (now (names .entry))) level stamp) (now (out .entry))) × (now (out .exit) ≡ bufferOf (dmmOctets (addressAt 6 (now (names .entry))) (addressAt 0 (now (names .entry))) level stamp) (now (out .entry))) ⌝ }
-    ensures { λ _. ⌜ length (dmmOctets (addressAt 6 (now (names .entry))) (addressAt 0 (now (names .entry))) level stamp) ≡ 51 ⌝ }
-{
-    let all: &[u8] = names;
-    write_dmm(out, &all[6..12], &all[..6], level, stamp)
-}
-
 // Writes an LMM with our sent count.
 pub fn send_lmm(
     set: &[u32; 4],
@@ -85,7 +63,7 @@ pub fn send_lmm(
     if !is_well_formed(set, names, ids, timers, rdi, run, totals) {
         return LmmAnswer::NotWellFormed;
     }
-    let written = lmm_between(names, set[LEVEL], run[SENT], out);
+    let written = write_lmm(out, names, set[LEVEL], run[SENT]);
     match written {
         Written::NoRoom => LmmAnswer::NoRoom,
         Written::Octets(_n) => LmmAnswer::Sent,
@@ -112,7 +90,7 @@ pub fn send_dmm(
     if !good_stamp(stamp) {
         return DmmAnswer::BadStamp;
     }
-    let written = dmm_between(names, set[LEVEL], stamp, out);
+    let written = write_dmm(out, names, set[LEVEL], stamp);
     match written {
         Written::NoRoom => DmmAnswer::NoRoom,
         Written::Octets(_n) => DmmAnswer::Sent,

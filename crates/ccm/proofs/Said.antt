@@ -1,36 +1,18 @@
--- The CCM of a state: where its address and MEG ID lie, what is written, and how long it is. Assumes nothing.
-use Prim.Native.Nat.{ℕ, _-_}
-use mathlib.Core.Path.{_≡_, refl, ap, _∙_}
+-- The CCM of a state: what is written, and how long it is. Assumes nothing.
+use Prim.Native.Nat.{ℕ}
+use mathlib.Core.Path.{_≡_, ap, _∙_}
 use mathlib.Core.Bool.{Bool}
 use mathlib.Core.List.{List}
-use native.Mathlib.Omega.{arith}
-use lib.ListN.{length, take, drop}
-use Rattle.whole.specs.Lists.{part}
-use Rattle.whole.proofs.Lists.{length-part}
+use lib.ListN.{length}
 use Rattle.state.specs.State.{State}
 use Rattle.conditions.specs.Standing.{standing}
 use Rattle.conditions.specs.Conditions.{flag}
 use Rattle.conditions.proofs.Rules.{standing-is}
 use Rattle.conditions.proofs.Show.{shows}
-use Rattle.message.specs.declared.sent.CcmValues.{CcmValues}
-use Rattle.message.specs.Messages.{ccmOctets}
-use Rattle.message.proofs.Laid.{ccm-long}
+use Rattle.continuity.specs.declared.CcmValues.{CcmValues}
+use Rattle.continuity.specs.Continuity.{ccmOctets}
+use Rattle.continuity.proofs.Laid.{ccm-long}
 use Rattle.ccm.specs.Ccm.{saidOf, ccmOf, CcmSays}
-
-pub own-is : (names : List ℕ) → take 6 names ≡ part 0 6 names
-unfolding part
-own-is names = refl
-
-module _ (names : List ℕ) (whole : length names ≡ 60) where
-  pub meg-is : take (length names - 12) (drop 12 names) ≡ part 12 48 names
-  unfolding part
-  meg-is = ap (λ (n : ℕ). take (n - 12) (drop 12 names)) whole
-
-  pub own-long : length (part 0 6 names) ≡ 6
-  own-long = length-part 0 6 names (omega arith)
-
-  pub meg-long : length (part 12 48 names) ≡ 48
-  meg-long = length-part 12 48 names (omega arith)
 
 module _ (s : State) where
   -- the state's values with another RDI

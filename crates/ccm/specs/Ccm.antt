@@ -7,8 +7,8 @@ use lib.ListN.{length}
 use Rattle.state.specs.State.{State}
 use Rattle.conditions.specs.Standing.{Stands, standing}
 use Rattle.conditions.specs.Conditions.{flag, Shows}
-use Rattle.message.specs.declared.sent.CcmValues.{CcmValues}
-use Rattle.message.specs.Messages.{ccmOctets}
+use Rattle.continuity.specs.declared.CcmValues.{CcmValues}
+use Rattle.continuity.specs.Continuity.{ccmOctets}
 
 -- what a state says of itself: any condition that stands sets RDI; sequence and counts are zero
 abbrev pub saidOf : State → CcmValues

@@ -6,9 +6,9 @@ ghost use Rattle.message.specs.Buffer.{writtenOf, bufferOf, told, numbersOf};
 ghost use Rattle.ccm.specs.Ccm.{ccmOf};
 use conditions::any_stands;
 use conditions::flag_of;
+use continuity::CcmValues;
+use continuity::write_ccm;
 use message::parts::Written;
-use message::sent::CcmValues;
-use message::sent::write_ccm;
 use settings::LEVEL;
 use settings::MEP;
 use settings::PEERS;
@@ -39,10 +39,7 @@ pub fn write_own_ccm(
         rxfcb: 0,
         txfcb: 0,
     };
-    // a view of an array tells its length, and costs nothing
-    let _octets: &[u8] = names;
     // a copy, which no caller's buffer can lie over: the MEG ID is then written by vector instructions and not octet by octet
     let copied = *names;
-    let all: &[u8] = &copied;
-    write_ccm(out, &all[..6], &all[12..], ccm)
+    write_ccm(out, &copied, ccm)
 }

@@ -21,7 +21,8 @@ use Rattle.state.specs.Changed as word
 use Rattle.state.specs.WellFormed.{WellFormed}
 use Rattle.frame.specs.Head.{etherTypeOf, offsetOf}
 use Rattle.fields.specs.Fixed.{ccmIn, megIn, lossIn}
-use Rattle.message.specs.Messages.{ccmOctets, lmmOctets, dmmOctets}
+use Rattle.continuity.specs.Continuity.{ccmOctets}
+use Rattle.requests.specs.Requests.{lmmOctets, dmmOctets}
 use Rattle.reply.specs.Replies.{lbrOctets, lmrOctets, dmrOctets}
 use Rattle.demands.specs.Calls.{active, passive, Arrival, Call, new-setting, frame, tick, clear, send-LMM, send-DMM, conditions, Raised, refused, dropped, passed, taken, written, loss, delay, delays, done, standing, Outcome, leaves}
 use Rattle.demands.specs.Cases.{pdu, opcode, level, hold, OneOf, LengthGood, StampGood, Heeded, Counted, Oam, OwnLevel, Handled, D4, D5, D6, Sound, code, GoodCcm, PeerAt, OwnCcm, FromPeer, txf, rxf, txb, Paired, BadDelay, Held, Fresh, AllZero, Flag, Lost, Stands}

@@ -5,9 +5,6 @@ use denote.Ref.{now}
 use Rattle.message.proofs.parts.write_stamp.Reads as write-stamp
 use Rattle.message.proofs.parts.write_head.Reads as write-head
 use Rattle.message.proofs.parts.tell.Reads as tell
-use Rattle.message.proofs.sent.write_ccm.Reads as write-ccm
-use Rattle.message.proofs.sent.write_lmm.Reads as write-lmm
-use Rattle.message.proofs.sent.write_dmm.Reads as write-dmm
 
 pub write-stamp-one : (κs : _) (a : _) (r r′ : _) (s s′ : _) → write-stamp.Post κs a r s → write-stamp.Post κs a r′ s′ → now (s .0) ≡ now (s′ .0)
 write-stamp-one κs a r r′ s s′ p q = p ∙ sym q
@@ -17,12 +14,3 @@ write-head-one κs a r r′ s s′ p q = p ∙ sym q
 
 pub tell-one : (κs : _) (a : _) (r r′ : _) (s s′ : _) → tell.Post κs a r s → tell.Post κs a r′ s′ → r ≡ r′
 tell-one κs a r r′ s s′ p q = p ∙ sym q
-
-pub write-ccm-one : (κs : _) (a : _) (r r′ : _) (s s′ : _) → write-ccm.Post κs a r s → write-ccm.Post κs a r′ s′ → (r ≡ r′) × (now (s .0) ≡ now (s′ .0))
-write-ccm-one κs a r r′ s s′ p q = (p .0 .0 ∙ sym (q .0 .0), p .1 ∙ sym (q .1))
-
-pub write-lmm-one : (κs : _) (a : _) (r r′ : _) (s s′ : _) → write-lmm.Post κs a r s → write-lmm.Post κs a r′ s′ → (r ≡ r′) × (now (s .0) ≡ now (s′ .0))
-write-lmm-one κs a r r′ s s′ p q = (p .0 .0 ∙ sym (q .0 .0), p .1 ∙ sym (q .1))
-
-pub write-dmm-one : (κs : _) (a : _) (r r′ : _) (s s′ : _) → write-dmm.Post κs a r s → write-dmm.Post κs a r′ s′ → (r ≡ r′) × (now (s .0) ≡ now (s′ .0))
-write-dmm-one κs a r r′ s s′ p q = (p .0 .0 ∙ sym (q .0 .0), p .1 ∙ sym (q .1))

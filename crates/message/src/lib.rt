@@ -1,3 +1,2 @@
-// The messages that the box sends by itself, written into the caller's buffer: CCM, LMM, DMM. Each is made of what is given and of no state.
+// What messages share: what writing one is answered, a stamp, the head of a frame.
 pub mod parts;
-pub mod sent;

@@ -26,8 +26,10 @@ use Rattle.fields.specs.declared.CcmFields.{CcmFields}
 use Rattle.fields.specs.Fixed.{word, ccmIn, noCcm, ccmOf, megIn, megOf, lossIn, noLoss, lossOf, delayIn, noDelay, delayOf}
 use Rattle.incoming.proofs.Shape.{framed}
 use Rattle.address.specs.Multicast.{multicastOf}
-use Rattle.message.specs.declared.sent.CcmValues.{CcmValues}
-use Rattle.message.specs.Messages.{count, stampOctets, afterDestination, ccmFixed, ccmOctets, lmmOctets, dmmOctets}
+use Rattle.continuity.specs.declared.CcmValues.{CcmValues}
+use Rattle.message.specs.Messages.{count, stampOctets, afterDestination}
+use Rattle.continuity.specs.Continuity.{ccmFixed, ccmOctets}
+use Rattle.requests.specs.Requests.{lmmOctets, dmmOctets}
 use Rattle.message.proofs.Laid.{count-long, stamp-long}
 use Rattle.readback.specs.Heads.{Says, Word}
 use Rattle.readback.specs.Sent.{CcmGiven, CcmBack, LmmBack, DmmBack, SentBack}

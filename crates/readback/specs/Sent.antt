@@ -13,8 +13,9 @@ use Rattle.incoming.specs.declared.MessageAnswer.the-variants.{Message}
 use Rattle.incoming.specs.Message.{messageOf}
 use Rattle.fields.specs.Fixed.{ccmOf, megOf, lossOf, delayOf}
 use Rattle.address.specs.Multicast.{multicastOf}
-use Rattle.message.specs.declared.sent.CcmValues.{CcmValues}
-use Rattle.message.specs.Messages.{ccmOctets, lmmOctets, dmmOctets}
+use Rattle.continuity.specs.declared.CcmValues.{CcmValues}
+use Rattle.continuity.specs.Continuity.{ccmOctets}
+use Rattle.requests.specs.Requests.{lmmOctets, dmmOctets}
 use Rattle.readback.specs.Heads.{Says, Word}
 
 -- ── CCM ──

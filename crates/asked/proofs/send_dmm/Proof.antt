@@ -25,11 +25,11 @@ returns-2 c =
     let s = lying (a .set) (a .names) (a .ids) (a .timers) (a .rdi) (a .run) (a .totals) in
     ends-6 s (a .stamp) (now (a .out)) (c .before .before .before .is-well-formed .ensures) (c .before .before .if1 .left) (c .before .good-stamp .ensures) (c .if2 .taken)
 
-element-copy-out-dmm-between : tie.Need-element-copy-out-dmm-between
-element-copy-out-dmm-between c = search needs
+element-copy-out-write-dmm : tie.Need-element-copy-out-write-dmm
+element-copy-out-write-dmm c = search needs
 
-dmm-between-requires : tie.Need-dmm-between-requires
-dmm-between-requires c κs = search needs
+write-dmm-requires : tie.Need-write-dmm-requires
+write-dmm-requires c κs = search needs
 
 enum-told : tie.Need-enum-told
 enum-told c = search needs
@@ -45,8 +45,8 @@ unfolding dmmOf
 returns-3 c =
     let a = c .before .before .before .before .before .before .before .before .before .before .before .before .args in
     let s = lying (a .set) (a .names) (a .ids) (a .timers) (a .rdi) (a .run) (a .totals) in
-    let w = c .before .before .before .before .dmm-between .ensures in
-    ends-3 s (a .stamp) (now (a .out)) (c .before .before .before .before .before .before .before .before .before .before .is-well-formed .ensures) (c .before .before .before .before .before .before .before .before .before .if1 .left) (c .before .before .before .before .before .before .before .before .good-stamp .ensures) (c .before .before .before .before .before .before .before .if2 .left) (w .1) (w .0 .0) (w .0 .1) (c .enum-told .given .1)
+    let w = c .before .before .before .before .write-dmm .ensures in
+    ends-3 s (a .stamp) (now (a .out)) (c .before .before .before .before .before .before .before .before .before .before .is-well-formed .ensures) (c .before .before .before .before .before .before .before .before .before .if1 .left) (c .before .before .before .before .before .before .before .before .good-stamp .ensures) (c .before .before .before .before .before .before .before .if2 .left) (w .1 .1) (w .0 .0) (w .1 .0) (c .enum-told .given .1)
 
 same-length-2 : tie.Need-same-length-2
 same-length-2 c = search needs
@@ -56,8 +56,8 @@ unfolding dmmOf
 returns-4 c =
     let a = c .before .before .before .before .before .before .before .before .before .before .before .before .before .args in
     let s = lying (a .set) (a .names) (a .ids) (a .timers) (a .rdi) (a .run) (a .totals) in
-    let w = c .before .before .before .before .before .dmm-between .ensures in
-    ends-sent s (a .stamp) (now (a .out)) (c .before .before .before .before .before .before .before .before .before .before .before .is-well-formed .ensures) (c .before .before .before .before .before .before .before .before .before .before .if1 .left) (c .before .before .before .before .before .before .before .before .before .good-stamp .ensures) (c .before .before .before .before .before .before .before .before .if2 .left) (w .1) (w .0 .0) (w .0 .1) (c .before .written .given .1)
+    let w = c .before .before .before .before .before .write-dmm .ensures in
+    ends-sent s (a .stamp) (now (a .out)) (c .before .before .before .before .before .before .before .before .before .before .before .is-well-formed .ensures) (c .before .before .before .before .before .before .before .before .before .before .if1 .left) (c .before .before .before .before .before .before .before .before .before .good-stamp .ensures) (c .before .before .before .before .before .before .before .before .if2 .left) (w .1 .1) (w .0 .0) (w .1 .0) (c .before .written .given .1)
 
 pub send-dmm-spec : {M : Type 1} → statement M
 send-dmm-spec =
@@ -67,8 +67,8 @@ send-dmm-spec =
     returns
     good-stamp-requires
     returns-2
-    element-copy-out-dmm-between
-    dmm-between-requires
+    element-copy-out-write-dmm
+    write-dmm-requires
     enum-told
     enum-known-written
     same-length

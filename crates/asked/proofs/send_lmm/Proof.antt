@@ -16,14 +16,14 @@ returns c =
     let s = lying (a .set) (a .names) (a .ids) (a .timers) (a .rdi) (a .run) (a .totals) in
     ends-2 s (now (a .out)) (c .before .is-well-formed .ensures) (c .if1 .taken)
 
-element-copy-out-lmm-between : tie.Need-element-copy-out-lmm-between
-element-copy-out-lmm-between c = search needs
+element-copy-out-write-lmm : tie.Need-element-copy-out-write-lmm
+element-copy-out-write-lmm c = search needs
 
-element-copy-out-lmm-between-2 : tie.Need-element-copy-out-lmm-between-2
-element-copy-out-lmm-between-2 c = search needs
+element-copy-out-write-lmm-2 : tie.Need-element-copy-out-write-lmm-2
+element-copy-out-write-lmm-2 c = search needs
 
-lmm-between-requires : tie.Need-lmm-between-requires
-lmm-between-requires c κs = search needs
+write-lmm-requires : tie.Need-write-lmm-requires
+write-lmm-requires c κs = search needs
 
 enum-told : tie.Need-enum-told
 enum-told c = search needs
@@ -39,8 +39,8 @@ unfolding lmmOf
 returns-2 c =
     let a = c .before .before .before .before .before .before .before .before .before .before .before .args in
     let s = lying (a .set) (a .names) (a .ids) (a .timers) (a .rdi) (a .run) (a .totals) in
-    let w = c .before .before .before .before .lmm-between .ensures in
-    ends-3 s (now (a .out)) (c .before .before .before .before .before .before .before .before .before .is-well-formed .ensures) (c .before .before .before .before .before .before .before .before .if1 .left) (w .1) (w .0 .0) (w .0 .1) (c .enum-told .given .1)
+    let w = c .before .before .before .before .write-lmm .ensures in
+    ends-3 s (now (a .out)) (c .before .before .before .before .before .before .before .before .before .is-well-formed .ensures) (c .before .before .before .before .before .before .before .before .if1 .left) (w .1 .1) (w .0 .0) (w .1 .0) (c .enum-told .given .1)
 
 same-length-2 : tie.Need-same-length-2
 same-length-2 c = search needs
@@ -50,8 +50,8 @@ unfolding lmmOf
 returns-3 c =
     let a = c .before .before .before .before .before .before .before .before .before .before .before .before .args in
     let s = lying (a .set) (a .names) (a .ids) (a .timers) (a .rdi) (a .run) (a .totals) in
-    let w = c .before .before .before .before .before .lmm-between .ensures in
-    ends-sent s (now (a .out)) (c .before .before .before .before .before .before .before .before .before .before .is-well-formed .ensures) (c .before .before .before .before .before .before .before .before .before .if1 .left) (w .1) (w .0 .0) (w .0 .1) (c .before .written .given .1)
+    let w = c .before .before .before .before .before .write-lmm .ensures in
+    ends-sent s (now (a .out)) (c .before .before .before .before .before .before .before .before .before .before .is-well-formed .ensures) (c .before .before .before .before .before .before .before .before .before .if1 .left) (w .1 .1) (w .0 .0) (w .1 .0) (c .before .written .given .1)
 
 pub send-lmm-spec : {M : Type 1} → statement M
 send-lmm-spec =
@@ -59,9 +59,9 @@ send-lmm-spec =
     (tie.spec
     is-well-formed-requires
     returns
-    element-copy-out-lmm-between
-    element-copy-out-lmm-between-2
-    lmm-between-requires
+    element-copy-out-write-lmm
+    element-copy-out-write-lmm-2
+    write-lmm-requires
     enum-told
     enum-known-written
     same-length

@@ -117,6 +117,10 @@ pub signed-back : (at : ℕ) (z : ℤ) (s : List ℕ) → at + 8 ≤ length s �
 signed-back at z s h fits =
     ap (toZ w64) (put-back littleEndian 8 at (ofZ w64 z) s h (fits-lt-pow (fits-ofZ fits))) ∙ toZ-ofZ fits
 
+-- the same of its eight octets alone
+pub signed-octets : (z : ℤ) → SFits w64 z → toZ w64 (number littleEndian (inOctets littleEndian 8 (ofZ w64 z))) ≡ z
+signed-octets z fits = ap (toZ w64) (number-back littleEndian 8 (ofZ w64 z) (fits-lt-pow (fits-ofZ fits))) ∙ toZ-ofZ fits
+
 -- ── one octet more ──
 
 -- read from the highest down: what is read so far, times 256, and the next octet

@@ -1,11 +1,10 @@
 -- Lists of a known length, all of whose elements were set. Assumes nothing.
-use Prim.Native.Nat.{ℕ, _+_, _≤_}
+use Prim.Native.Nat.{ℕ}
 use mathlib.Core.Path.{_≡_, refl, ap, _∙_}
-use mathlib.Core.List.{List, [], _∷_, _++_, map, append-nil}
+use mathlib.Core.List.{List, [], _∷_, map}
 use native.Mathlib.Omega.{arith}
 use lib.IntN.{ℤ}
-use lib.ListN.{length, set, replicate, drop-of-length-le}
-use Rattle.whole.specs.Lists.{laid}
+use lib.ListN.{length, set, replicate}
 
 each-zero : (l : List ℕ) → map {B = ℕ} (λ x. 0) l ≡ replicate (length l) 0
 each-zero [] = refl
@@ -20,10 +19,3 @@ two [] a b h = absurd (omega arith)
 two (x ∷ []) a b h = absurd (omega arith)
 two (x ∷ y ∷ []) a b h = refl
 two (x ∷ y ∷ z ∷ l) a b h = absurd (omega arith)
-
--- octets laid over as many others
-pub laid-whole : (l xs : List ℕ) (n : ℕ) → length l ≡ n → length xs ≡ n → laid 0 xs l ≡ xs
-unfolding laid
-laid-whole l xs n h k =
-    let short : length l ≤ 0 + length xs = omega arith in
-    ap (λ (m : List ℕ). xs ++ m) (drop-of-length-le l short) ∙ append-nil xs

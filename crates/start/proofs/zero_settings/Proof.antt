@@ -1,7 +1,8 @@
 -- `start::zero_settings` meets its contract: arrays of known lengths, all zero.
 use mathlib.Core.Path.{_≡_, refl, _∙_}
 use lib.ListN.{length, replicate}
-use Rattle.start.proofs.Zeros.{all-zero, laid-whole}
+use Rattle.whole.proofs.Apart.{laid-whole}
+use Rattle.start.proofs.Zeros.{all-zero}
 use borrow.Author.Needs.{needs}
 use Rattle.start.proofs.zero_settings.Statement.{statement}
 use Rattle.start.proofs.zero_settings.Tie as tie

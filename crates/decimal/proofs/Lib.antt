@@ -1,0 +1,5 @@
+pub mod Put
+pub mod Decimal
+pub mod Turns
+pub mod Sign
+pub mod One

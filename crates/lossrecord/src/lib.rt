@@ -1,0 +1,142 @@
+// The stored record of kind 2, a loss line: the two totals of a session and the intervals that they cover.
+ghost use mathlib.Core.Path.{_≡_};
+ghost use Prim.Native.Nat.{_≤_};
+ghost use lib.ListN.{length};
+ghost use Rattle.record.specs.Writing.{ended};
+ghost use Rattle.record.specs.Writing as written;
+ghost use Rattle.lossrecord.specs.Line.{sessionOf, keepsRules, lineBody, lineIn};
+ghost use Rattle.lossrecord.specs.Calls.{readLine, writeLine, writtenNumbers, told, numbersOf};
+use loss::LossSession;
+use loss::Readings;
+use loss::well_formed;
+use octets::numbers::read_little;
+use octets::numbers::read_little_signed;
+use octets::numbers::write_little;
+use octets::numbers::write_little_signed;
+use record::HEAD;
+use record::RecordAnswer;
+use record::is_record;
+use record::write_record;
+
+// The record's kind, and the octets of its body.
+const KIND: u16 = 2;
+
+const BODY: usize = 20;
+
+// The octets of the whole record.
+pub const LINE: usize = 24;
+
+// A loss line.
+#[repr(C)]
+pub struct LossLine {
+    pub near: i64,
+    pub far: i64,
+    pub intervals: u32,
+}
+
+// What reading a loss line is answered.
+pub enum LineAnswer {
+    // Refusal 7: no whole record of kind 2, or its values break a rule.
+    Refused,
+    // The line; its record is the first 24 octets.
+    Line(LossLine),
+}
+
+// An answer in the paper's numbers: the refusal, or 0, and the line's values.
+#[repr(C)]
+pub struct LineTold {
+    pub refusal: u32,
+    pub intervals: u32,
+    pub near: i64,
+    pub far: i64,
+}
+
+// A session that has the line's totals and intervals: the rules on them are the session's own.
+fn session_of(line: LossLine) -> LossSession
+    ensures { λ r. ⌜ r ≡ sessionOf line ⌝ }
+{
+    LossSession {
+        kept: 1,
+        intervals: line.intervals,
+        last: Readings {
+            txf: 0,
+            rxf: 0,
+            txb: 0,
+            ours: 0,
+        },
+        near: line.near,
+        far: line.far,
+    }
+}
+
+// Whether the line keeps the rules on intervals and totals.
+fn keeps_rules(line: LossLine) -> bool
+    ensures { λ r. ⌜ r ≡ keepsRules line ⌝ }
+{
+    well_formed(session_of(line))
+}
+
+// The line in the octets of a record.
+fn line_in(from: &[u8]) -> LossLine
+    requires { ⌜ 24 ≤ length (now from) ⌝ }
+    ensures { λ r. ⌜ r ≡ lineIn (now (from .entry)) ⌝ }
+{
+    LossLine {
+        near: read_little_signed(from, HEAD),
+        far: read_little_signed(from, HEAD + 8),
+        intervals: read_little(from, HEAD + 16, 4),
+    }
+}
+
+// Reads the loss line at the front of the octets. What stands behind its record is not looked at.
+pub fn read_line(from: &[u8]) -> LineAnswer
+    ensures { λ r. ⌜ (r ≡ readLine (now (from .entry))) × (told r ≡ numbersOf (now (from .entry))) ⌝ }
+{
+    if !is_record(from, KIND, BODY) {
+        return LineAnswer::Refused;
+    }
+    let line = line_in(from);
+    if !keeps_rules(line) {
+        return LineAnswer::Refused;
+    }
+    LineAnswer::Line(line)
+}
+
+// The body of a line's record.
+fn body_of(line: LossLine) -> [u8; BODY]
+    ensures { λ r. ⌜ r ≡ lineBody line ⌝ }
+{
+    let mut body = [0u8; BODY];
+    write_little_signed(&mut body, 0, line.near);
+    write_little_signed(&mut body, 8, line.far);
+    write_little(&mut body, 16, 4, line.intervals);
+    body
+}
+
+// Writes a loss line's record into the front of the buffer: refused with 4 where it breaks a rule, and then with 3 where there is no room.
+pub fn write_line(into: &mut [u8], line: LossLine) -> RecordAnswer
+    ensures { λ r. ⌜ (ended r (now (into .exit)) ≡ writeLine line (now (into .entry))) × (written.told r ≡ writtenNumbers line (now (into .entry))) ⌝ }
+{
+    let body = body_of(line);
+    write_record(into, KIND, &body, keeps_rules(line))
+}
+
+// An answer in the paper's numbers.
+pub fn tell(answer: LineAnswer) -> LineTold
+    ensures { λ r. ⌜ r ≡ told answer ⌝ }
+{
+    match answer {
+        LineAnswer::Refused => LineTold {
+            refusal: 7,
+            intervals: 0,
+            near: 0,
+            far: 0,
+        },
+        LineAnswer::Line(line) => LineTold {
+            refusal: 0,
+            intervals: line.intervals,
+            near: line.near,
+            far: line.far,
+        },
+    }
+}

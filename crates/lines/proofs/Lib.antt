@@ -1,0 +1,5 @@
+pub mod Text
+pub mod Sheets
+pub mod Turns
+pub mod Chunks
+pub mod One

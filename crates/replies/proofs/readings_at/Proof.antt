@@ -1,0 +1,44 @@
+-- `replies::readings_at` meets its contract: four counts, one behind the other.
+use denote.Ref.{now}
+use Rattle.replies.proofs.Laws.{counts-here}
+use borrow.Author.Needs.{needs}
+use Rattle.replies.proofs.readings_at.Statement.{statement}
+use Rattle.replies.proofs.readings_at.Tie as tie
+
+read-little-requires : tie.Need-read-little-requires
+read-little-requires c κs = search needs
+
+add-read-little : tie.Need-add-read-little
+add-read-little c = search needs
+
+read-little-requires-2 : tie.Need-read-little-requires-2
+read-little-requires-2 c κs = search needs
+
+add-read-little-2 : tie.Need-add-read-little-2
+add-read-little-2 c = search needs
+
+read-little-requires-3 : tie.Need-read-little-requires-3
+read-little-requires-3 c κs = search needs
+
+add-read-little-3 : tie.Need-add-read-little-3
+add-read-little-3 c = search needs
+
+read-little-requires-4 : tie.Need-read-little-requires-4
+read-little-requires-4 c κs = search needs
+
+returns : tie.Need-returns
+returns c = let a = c .before .before .before .before .before .args in
+    counts-here (now (a .from)) (a .at) (c .before .before .before .read-little .ensures .is) (c .before .before .read-little2 .ensures .is) (c .before .read-little3 .ensures .is) (c .read-little4 .ensures .is)
+
+pub readings-at-spec : {M : Type 1} → statement M
+readings-at-spec =
+    tie.close
+    (tie.spec
+    read-little-requires
+    add-read-little
+    read-little-requires-2
+    add-read-little-2
+    read-little-requires-3
+    add-read-little-3
+    read-little-requires-4
+    returns)

@@ -1,0 +1,101 @@
+// Raw loss replies worked again: the four counts of each are fed to a session, and a stored loss line is written after each. What a card kept of a
+// month is so made into its sheet.
+ghost use mathlib.Core.Path.{_≡_};
+ghost use Prim.Native.Nat.{_+_, _≤_};
+ghost use lib.ListN.{length, drop};
+ghost use Rattle.whole.specs.Lists.{laid};
+ghost use Rattle.lossrecord.specs.Line.{KeepsRules, lineRecord};
+ghost use Rattle.replies.specs.Replies.{readingsIn, lineOf};
+ghost use Rattle.replies.specs.Recount.{ended, answered, recountInto};
+use card::answer;
+use loss::LossSession;
+use loss::Readings;
+use loss::well_formed;
+use lossrecord::LINE;
+use lossrecord::LossLine;
+use lossrecord::write_line;
+use octets::numbers::read_little;
+use octets::parts::copy_octets;
+
+// The octets of a reply: four counts of 32 bits.
+pub const REPLY: usize = 16;
+
+// How far the replies were worked through.
+pub struct Recounted {
+    // 2 where the session is not well formed; 3 where the buffer has no room for a record of each reply, and nothing was read; 5 where the session
+    // refused the next reply; else 0.
+    pub refusal: u32,
+    // The replies taken, and so the records written.
+    pub taken: usize,
+    pub session: LossSession,
+}
+
+// The counts of the reply at a place: TxFCf, RxFCf, TxFCb and our own received count.
+fn readings_at(from: &[u8], at: usize) -> Readings
+    requires { ⌜ at + 16 ≤ length (now from) ⌝ }
+    ensures { λ r. ⌜ r ≡ readingsIn (drop at (now (from .entry))) ⌝ }
+{
+    Readings {
+        txf: read_little(from, at, 4),
+        rxf: read_little(from, at + 4, 4),
+        txb: read_little(from, at + 8, 4),
+        ours: read_little(from, at + 12, 4),
+    }
+}
+
+// Writes the line of a session as a record at a place.
+fn put_record(into: &mut [u8], at: usize, s: LossSession)
+    requires { ⌜ (at + 24 ≤ length (now into)) × KeepsRules (lineOf s) ⌝ }
+    ensures { λ _. ⌜ now (into .exit) ≡ laid at (lineRecord (lineOf s)) (now (into .entry)) ⌝ }
+{
+    let mut stored = [0u8; LINE];
+    write_line(
+        &mut stored,
+        LossLine {
+            near: s.near,
+            far: s.far,
+            intervals: s.intervals,
+        },
+    );
+    copy_octets(into, at, &stored);
+}
+
+// Where the work stands.
+fn worked_to(refusal: u32, taken: usize, session: LossSession) -> Recounted
+    ensures { λ r. ⌜ r ≡ answered refusal taken session ⌝ }
+{
+    Recounted {
+        refusal,
+        taken,
+        session,
+    }
+}
+
+// Works through the whole replies of a chunk, from a session on, and writes their records into the front of the buffer. Octets behind the last whole
+// reply are not looked at.
+pub fn recount(into: &mut [u8], from: &[u8], session: LossSession) -> Recounted
+    ensures { λ r. ⌜ ended r (now (into .exit)) ≡ recountInto session (now (from .entry)) (now (into .entry)) ⌝ }
+{
+    let mut s = session;
+    if !well_formed(s) {
+        return worked_to(2, 0, s);
+    }
+    let count = from.len() / REPLY;
+    if into.len() / LINE < count {
+        return worked_to(3, 0, s);
+    }
+    let mut i: usize = 0;
+    while i < count {
+        let r = readings_at(from, i * REPLY);
+        let next = answer(s, r.txf, r.rxf, r.txb, r.ours);
+        let told = next.told;
+        if told.refusal != 0 {
+            return worked_to(told.refusal, i, s);
+        }
+        let after = next.session;
+        s = after;
+        put_record(into, i * LINE, s);
+        i += 1;
+    }
+    worked_to(0, count, s)
+}

@@ -40,7 +40,8 @@ pub pairs-seen : (xs : List LossAnswer) → pairs (map (seen near) xs) (map (see
 pairs-seen [] = refl
 pairs-seen (x ∷ xs) = ap₂ _∷_ (joined-seen x) (pairs-seen xs)
 
-shows : (d : Side) (ts : List Counts) → Shows d (map shown ts) (map (truthOf d) ts)
+-- readings of true counts show them, on either side
+pub shows : (d : Side) (ts : List Counts) → Shows d (map shown ts) (map (truthOf d) ts)
 shows d [] = tt
 shows near (t ∷ ts) = (refl, refl, shows near ts)
 shows far (t ∷ ts) = (refl, refl, shows far ts)

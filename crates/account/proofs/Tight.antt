@@ -47,6 +47,10 @@ unfolding build
 sound d [] = tt
 sound d (r ∷ rs) = build-goes d (next d origin r) rs
 
+-- so any readings of 32 bits show true counts that neither fall nor grow too far
+pub shown-by : (d : Side) (rs : List Readings) → Small rs → (ts : List Truth) × (Shows d rs ts) × (Sound ts)
+shown-by d rs small = (build d origin rs, build-shows d origin rs small, sound d rs)
+
 agrees : (f : Step) → Demand3 f → (rs : List Readings) → length rs ≤ 1000000001 → Small rs → (d : Side) → Agrees f d rs (build d origin rs)
 agrees f m rs few small d = m .side d rs (build d origin rs) few (build-shows d origin rs small) (sound d rs)
 

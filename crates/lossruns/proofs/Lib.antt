@@ -1,0 +1,15 @@
+pub mod Same
+pub mod Step
+pub mod Lift
+pub mod AnyLength
+pub mod Counts
+pub mod Tied
+pub mod Answered
+pub mod Whole
+pub mod Meets
+pub mod Refuted
+pub mod Joined
+pub mod Tight
+pub mod Both
+pub mod AnyClear
+pub mod Following

@@ -1,0 +1,7 @@
+pub mod Runs
+pub mod Replies
+pub mod Own
+pub mod Demand3
+pub mod Meets
+pub mod Both
+pub mod Wrong

@@ -1,0 +1,40 @@
+-- Two boxes in time answer alike: what a box is to answer is settled by the calls. Assumes nothing.
+use Prim.Native.Nat.{ℕ}
+use mathlib.Core.Path.{_≡_, refl}
+use mathlib.Core.List.{List}
+use Rattle.settings.specs.Settings.{Settings}
+use Rattle.settings.specs.Valid.{Valid}
+use Rattle.state.specs.State.{State}
+use Rattle.demands.specs.Calls as call
+use Rattle.demands.specs.Calls.{Call, Answer, Box}
+use Rattle.demands.specs.Cases.{Flag, on, off}
+use Rattle.timing.specs.Runs.{Fits, Each, since}
+use Rattle.timing.specs.Timers.{Timer, Used}
+use Rattle.timing.specs.Time.{Beat, sends, quiet, Told, told, Time, LastSet, unset, split, Alike, alike, Tight}
+use Rattle.timing.proofs.Timely.{timely}
+
+one-beat : {P : Type 0} {r q : Answer} → Beat P r → Beat P q → r ≡ q
+one-beat (sends p) (sends o) = refl
+one-beat (sends p) (quiet n) = absurd (n p)
+one-beat (quiet n) (sends p) = absurd (n p)
+one-beat (quiet n) (quiet m) = refl
+
+one-flag : {P : Type 0} {n m : ℕ} → Flag P n → Flag P m → n ≡ m
+one-flag (on p) (on q) = refl
+one-flag (on p) (off n) = absurd (n p)
+one-flag (off n) (on p) = absurd (n p)
+one-flag (off n) (off m) = refl
+
+one-told : {x : Timer} {P : Type 0} {r q : Answer} → Told x P r → Told x P q → Alike x r q
+one-told (told r f) (told q g) = alike r q (one-flag f g)
+
+module _ {B C : Box} (T : Time B) (U : Time C) (s z : State) (t : Settings) (x : Timer) (v : Valid t) (u : Used t x) where
+  told-alike : {cs : List Call} → LastSet t x cs → Each Fits cs → Alike x (B (since B s t cs) call.conditions .answer) (C (since C z t cs) call.conditions .answer)
+  told-alike (unset cs n) f = one-told (T .never s t x cs v u f n) (U .never z t x cs v u f n)
+  told-alike (split before c h cs p n) f = one-told (T .last s t x before c h cs v u f p n) (U .last z t x before c h cs v u f p n)
+
+pub tight : Tight
+tight = record {
+  ticks = λ B C T U s z t cs b v f room. one-beat (T .beats s t cs b v f room) (U .beats z t cs b v f room);
+  told = λ B C T U s z t x cs v u f. told-alike T U s z t x v u (timely .all t x cs v u f) f;
+}

@@ -1,0 +1,4 @@
+pub mod Runs
+pub mod Timers
+pub mod Time
+pub mod Wrong

@@ -1,0 +1,22 @@
+-- The order, whole: what a box must keep before the plan, and what is said of the calls beside it. Definitions and the statement only.
+use Rattle.demands.specs.Calls.{Box}
+use Rattle.demands.specs.Ours.{ours, Follows}
+use Rattle.lossruns.specs.Demand3.{Demand3}
+use Rattle.timing.specs.Time.{Time}
+use Rattle.order.specs.Demand1.{Demand1, Beside}
+use Rattle.order.specs.Records.{RecordsFollow}
+use Rattle.order.specs.Demand2.{Demand2}
+
+pub record Order (B : Box) : Type 0 where
+  pub demand-1 : Demand1 B
+  pub demand-2 : Demand2 B
+  pub demand-3 : Demand3 B
+  pub in-time : Time B
+
+-- every box that follows the paper keeps it, and so does ours; and the calls that are given no state of a box, those on stored records, the
+-- reader and the lent session, keep demands 1 and 2 beside it
+pub record Met : Type 0 where
+  pub every : (B : Box) → Follows B → Order B
+  pub our-box : Order ours
+  pub beside : Beside
+  pub records : RecordsFollow

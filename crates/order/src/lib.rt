@@ -1,0 +1,1 @@
+// The order's demands, whole, each as one predicate on a box, and that our box meets them. No code.

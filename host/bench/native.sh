@@ -1,0 +1,60 @@
+# Read by run and sheet at the repository's root: the code of a program for this machine. It proves nothing.
+#
+# `rt` writes code for x86-64 alone. Here the compiler's own IR is caught on its way to LLVM (`rattle-cases`, which is behind `rt try`, compiles
+# a program from the sources) and written as text without a word about the processor. The kit's clang makes an object of it at -O3 for this one.
+for c in rt rustc; do
+    command -v $c >/dev/null 2>&1 || { echo "$0: $c is not on the PATH" >&2; exit 2; }
+done
+root=$PWD
+work=$root/target/bench
+home=$(dirname "$(dirname "$(rt doc)")")
+arch=$(uname -m)
+on=$home/on/$arch
+clang=$on/toolchain/bin/clang
+rust="rustc --edition 2024 -C opt-level=3 -C codegen-units=1 -C panic=abort"
+mkdir -p "$work"
+
+# the toolchain with a clang that keeps the IR of the program at -O3
+[ -d "$work/toolchain" ] || cp -rs "$on/toolchain/" "$work/toolchain"
+rm -f "$work/toolchain/bin/clang"
+cat >"$work/toolchain/bin/clang" <<SH
+#!/bin/sh
+case "\$*" in *-O3*) for a in "\$@"; do case \$a in *.bc) cp "\$a" "$work/caught.bc" ;; esac; done ;; esac
+exec "$clang" "\$@"
+SH
+chmod +x "$work/toolchain/bin/clang"
+
+# crate_at NAME DIR: where a crate's source is
+crate_at() {
+    for d in "$2" "$root/crates" ${BENCH_CRATES-}; do
+        if [ -n "$d" ] && [ -f "$d/$1/src/lib.rt" ]; then
+            echo "$d/$1/src/lib.rt"
+            return
+        fi
+    done
+}
+
+# catch_ir NAME DIR WORDS..: the IR of a program as text in NAME.caught.ll; crates in DIR stand in for those of the same name, WORDS name the program
+catch_ir() {
+    name=$1
+    dir=$2
+    shift 2
+    for c in $({ sed -e 's/#.*//' -e 's/:.*//' -e '/^ *$/d' crates.txt; [ -z "${BENCH_CRATES-}" ] || ls ${BENCH_CRATES-}; } | sort -u); do
+        at=$(crate_at "$c" "$dir")
+        [ -z "$at" ] || set -- "$@" --lib "$c=$at"
+    done
+    rm -f "$work/caught.bc"
+    "$on/bin/rattle-cases" --toolchain "$work/toolchain" "$@" --lib std="$home/libs/std/src/lib.rt" >"$work/$name.log" 2>&1 ||
+        { tail -20 "$work/$name.log" >&2; exit 1; }
+    "$clang" --target=x86_64-unknown-linux-gnu -x ir -Xclang -disable-llvm-passes -O3 -S -emit-llvm "$work/caught.bc" -o "$work/caught.ll" 2>/dev/null
+    sed -e '/^target datalayout/d' -e '/^target triple/d' -e 's/"target-cpu"="[^"]*"//g' -e 's/"target-features"="[^"]*"//g' \
+        "$work/caught.ll" >"$work/$name.caught.ll"
+}
+
+# compile NAME: NAME.o for this processor from NAME.ll, and NAME.s to read
+compile() {
+    for o in "-c $1.o" "-S $1.s"; do
+        (cd "$work" && "$clang" --target="$arch-unknown-linux-gnu" -O3 -fPIE -ffunction-sections ${o%% *} -x ir "$1.ll" -o "${o#* }" 2>"$1.clang") ||
+            { cat "$work/$1.clang" >&2; exit 1; }
+    done
+}

@@ -21,6 +21,7 @@ use Rattle.state.specs.Changed as word
 use Rattle.state.specs.WellFormed.{WellFormed}
 use Rattle.frame.specs.Head.{etherTypeOf, offsetOf}
 use Rattle.fields.specs.Fixed.{ccmIn, megIn, lossIn}
+use Rattle.continuity.specs.declared.CcmValues.{CcmValues}
 use Rattle.continuity.specs.Continuity.{ccmOctets}
 use Rattle.requests.specs.Requests.{lmmOctets, dmmOctets}
 use Rattle.reply.specs.Replies.{lbrOctets, lmrOctets, dmrOctets}
@@ -30,9 +31,11 @@ use Rattle.demands.specs.Cases.{pdu, opcode, level, hold, OneOf, LengthG
 -- ── what a message is made of ──
 
 -- the CCM that a state sends, 89 octets: neither sequence nor counts are used
+abbrev pub ccmValues : State → ℕ → CcmValues
+ccmValues s rdi = record { level = s .settings .level; rdi = rdi; period = s .settings .period; sequence = 0; mep = s .settings .mep; txfcf = 0; rxfcb = 0; txfcb = 0 }
+
 abbrev pub ccmFrom : State → ℕ → List ℕ
-ccmFrom s rdi = ccmOctets (s .settings .own) (s .settings .meg)
-    (record { level = s .settings .level; rdi = rdi; period = s .settings .period; sequence = 0; mep = s .settings .mep; txfcf = 0; rxfcb = 0; txfcb = 0 })
+ccmFrom s rdi = ccmOctets (s .settings .own) (s .settings .meg) (ccmValues s rdi)
 
 -- the LMM, 31 octets to the loss peer, with our sent count
 abbrev pub lmmFrom : State → List ℕ

@@ -50,7 +50,7 @@ only octets text (good-record line rest more k p) =
     let some : 0 < length all = omega (arith, length-append (lineRecord line) rest, line-long line) in
     ap₂ (λ (a b : List ℕ). a ++ b) (sym (line-text all line e)) (only rest more p ∙ ap textOf (sym (behind-record line rest)))
     ∙ sym (text-good all some (is-line all line e))
-only octets text (bad-record x xs e) = sym (all-refused (x ∷ xs) (omega arith) e)
+only octets text (bad-record x xs w) = sym (all-refused (x ∷ xs) (omega arith) (loss-records .refuses-7 (x ∷ xs) .1 w))
 
 rest-octets : (octets : List ℕ) → Octets octets → Octets (drop 24 octets)
 rest-octets octets all i = rw (getD-drop 24 octets i 0) (all (24 + i))
@@ -67,7 +67,7 @@ prints-within (suc n) (x ∷ xs) h all =
     by (prints-within n (drop 24 (x ∷ xs)) (omega (arith, h, length-drop 24 (x ∷ xs))) (rest-octets (x ∷ xs) all)) (read (x ∷ xs))
   where
     by : Prints (drop 24 (x ∷ xs)) (textOf (drop 24 (x ∷ xs))) → Read (x ∷ xs) → Prints (x ∷ xs) (textOf (x ∷ xs))
-    by rest (refused e) = rw (all-refused (x ∷ xs) (omega arith) e) (bad-record x xs e)
+    by rest (refused e) = rw (all-refused (x ∷ xs) (omega arith) e) (bad-record x xs (loss-records .refuses-7 (x ∷ xs) .0 e))
     by rest (a-line line e) =
         let text : textOf (x ∷ xs) ≡ lineText line ++ textOf (drop 24 (x ∷ xs)) =
         text-good (x ∷ xs) (omega arith) (is-line (x ∷ xs) line e) ∙ ap (λ (t : List ℕ). t ++ textOf (drop 24 (x ∷ xs))) (line-text (x ∷ xs) line e) in

@@ -4,15 +4,16 @@ use Prim.Native.Nat.{ℕ, zero, suc, _*_, _<_}
 use mathlib.Core.Path.{_≡_}
 use mathlib.Core.List.{List, [], _∷_, _++_}
 use mathlib.Core.Bool.{Bool, true, false, _&&_, cond}
+use mathlib.Core.Logic.{_⊎_}
 use lib.IntN.{pos}
 use lib.ListN.{length, drop}
 use Rattle.octets.specs.Numbers.{Octets}
 use Rattle.decimal.specs.Decimal.{decimal}
-use Rattle.record.specs.Record.{kindField}
+use Rattle.record.specs.Record.{kindField, NoRecord}
 use Rattle.lossrecord.specs.declared.LossLine.{LossLine}
 use Rattle.lossrecord.specs.declared.LineAnswer.{LineAnswer}
 use Rattle.lossrecord.specs.declared.LineAnswer.the-variants.{Refused, Line}
-use Rattle.lossrecord.specs.Line.{KeepsRules, lineRecord}
+use Rattle.lossrecord.specs.Line.{KeepsRules, lineRecord, lineIn}
 use Rattle.lossrecord.specs.Calls.{readLine}
 
 -- ── its texts, in ASCII ──
@@ -32,11 +33,11 @@ lineText line = (decimal (pos (line .intervals)) ++ (32 ∷ [])) ++ (decimal (li
 -- ── what is meant ──
 
 -- what is printed behind the header for these octets: nothing for none; the line of a good record, and what is printed for the rest; the
--- refusal alone for anything else
+-- refusal alone where no whole record of kind 2 begins, or its values break a rule
 pub data Prints : List ℕ → List ℕ → Type 0 where
   nothing-left : Prints [] []
   good-record : (line : LossLine) (rest text : List ℕ) → KeepsRules line → Prints rest text → Prints (lineRecord line ++ rest) (lineText line ++ text)
-  bad-record : (first : ℕ) (rest : List ℕ) → readLine (first ∷ rest) ≡ Refused → Prints (first ∷ rest) refusedText
+  bad-record : (first : ℕ) (rest : List ℕ) → NoRecord 2 20 (first ∷ rest) ⊎ (KeepsRules (lineIn (first ∷ rest)) → ⊥) → Prints (first ∷ rest) refusedText
 
 -- ── the same, computed ──
 

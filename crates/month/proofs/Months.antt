@@ -24,7 +24,7 @@ use Rattle.loss.proofs.Numbers.{told-numbers}
 use Rattle.decimal.specs.Decimal.{decimal, digitsOf, leading}
 use Rattle.lossrecord.specs.declared.LossLine.{LossLine}
 use Rattle.lossrecord.specs.Line.{KeepsRules, lineRecord}
-use Rattle.lines.specs.Sheet.{headerText, lineText, Prints, nothing-left, good-record, textOf, sheetOf}
+use Rattle.lines.specs.Sheet.{headerText, lineText, Prints, nothing-left, good-record, textOf, sheetOf, joined}
 use Rattle.lines.proofs.Sheets.{sheets}
 use Rattle.account.specs.Account.{Truth, GoesOn, Sound, newest, total}
 use Rattle.account.specs.Demand3.{leaves, Counts, truthOf, shown, Steady}
@@ -103,7 +103,7 @@ record Goes (w : Worked) (lines : List LossLine) (n : ℕ) : Type 0 where
 
 goes : (ts before : List Counts) → length (before ++ ts) ≤ 1000000001 → Steady (before ++ ts)
     → Goes (worked (reached before) (map shown ts)) (accountLines before ts) (length ts)
-unfolding accountLines recordsOf textsOf
+unfolding accountLines joined
 goes [] before few steady = rw (worked-none (reached before)) (record { records-are = refl; none-refused = refl; all-taken = refl; printed = nothing-left })
 goes (t ∷ ts) before few steady = by (goes ts (before ++ (t ∷ [])) (rw (append-snoc before t ts) few) (rw (append-snoc before t ts) steady))
   where
@@ -185,7 +185,7 @@ unfolding quay-counts
 quay-shown = refl
 
 quay-text : headerText ++ textsOf (accountLines [] quay-counts) ≡ quaySheet
-unfolding quay-counts accountLines textsOf lineText total newest decimal digitsOf leading
+unfolding quay-counts accountLines joined lineText total newest decimal digitsOf leading
 quay-text = refl
 
 grain-quay : sheetOf (recounted (rawReplies quay) .records) ≡ quaySheet

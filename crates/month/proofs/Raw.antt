@@ -12,6 +12,7 @@ use Rattle.octets.specs.Numbers.{littleEndian, number, inOctets}
 use Rattle.octets.proofs.Laws.{length-octets, number-back, number-here}
 use Rattle.loss.specs.declared.Readings.{Readings}
 use Rattle.loss.specs.Session.{Side, near, far, sentOf, receivedOf}
+use Rattle.lines.specs.Sheet.{joined}
 use Rattle.account.specs.Demand3.{Counts, shown, Small}
 use Rattle.replies.specs.Replies.{readingsIn, repliesIn, replies}
 use Rattle.month.specs.Month.{rawReply, rawReplies}
@@ -47,12 +48,12 @@ module _ (r : Readings) (rest : List ℕ) where
       rw (n1, n2, n3, n4)
 
 raws-long : (rs : List Readings) → length (rawReplies rs) ≡ length rs * 16
-unfolding rawReplies
+unfolding joined
 raws-long [] = refl
 raws-long (r ∷ rs) = length-append (rawReply r) (rawReplies rs) ∙ omega (arith, raw-long r [], raws-long rs)
 
 back-within : (rs : List Readings) → Small rs → repliesIn (length rs) (rawReplies rs) ≡ rs
-unfolding rawReplies repliesIn
+unfolding joined repliesIn
 back-within [] small = refl
 back-within (r ∷ rs) small =
     ap₂ (λ (x : Readings) (xs : List Readings). x ∷ xs) (reply-back r (rawReplies rs) (small .0))

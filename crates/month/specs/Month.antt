@@ -9,7 +9,7 @@ use Rattle.loss.specs.declared.Readings.{Readings}
 use Rattle.loss.specs.Session.{near, far, readings, clearedSession, afterReading}
 use Rattle.lossrecord.specs.declared.LossLine.{LossLine}
 use Rattle.lossrecord.specs.Line.{lineRecord}
-use Rattle.lines.specs.Sheet.{headerText, lineText, sheetOf}
+use Rattle.lines.specs.Sheet.{headerText, lineText, sheetOf, joined}
 use Rattle.account.specs.Account.{total}
 use Rattle.account.specs.Demand3.{leaves, Counts, truthOf, shown, Steady, Small}
 use Rattle.replies.specs.Replies.{replies, Worked, stopped, worked}
@@ -26,13 +26,11 @@ accountLines before [] = []
 accountLines before (t ∷ ts) = accountLine (before ++ (t ∷ [])) ∷ accountLines (before ++ (t ∷ [])) ts
 
 -- the records of lines, and their text, end to end
-unfoldable pub recordsOf : List LossLine → List ℕ
-recordsOf [] = []
-recordsOf (line ∷ lines) = lineRecord line ++ recordsOf lines
+abbrev pub recordsOf : List LossLine → List ℕ
+recordsOf lines = joined (map lineRecord lines)
 
-unfoldable pub textsOf : List LossLine → List ℕ
-textsOf [] = []
-textsOf (line ∷ lines) = lineText line ++ textsOf lines
+abbrev pub textsOf : List LossLine → List ℕ
+textsOf lines = joined (map lineText lines)
 
 -- ── raw replies ──
 
@@ -40,9 +38,8 @@ textsOf (line ∷ lines) = lineText line ++ textsOf lines
 unfoldable pub rawReply : Readings → List ℕ
 rawReply r = inOctets littleEndian 4 (r .txf) ++ inOctets littleEndian 4 (r .rxf) ++ inOctets littleEndian 4 (r .txb) ++ inOctets littleEndian 4 (r .ours)
 
-unfoldable pub rawReplies : List Readings → List ℕ
-rawReplies [] = []
-rawReplies (r ∷ rs) = rawReply r ++ rawReplies rs
+abbrev pub rawReplies : List Readings → List ℕ
+rawReplies rs = joined (map rawReply rs)
 
 -- the records that are written of raw octets, from a cleared session on
 abbrev pub recounted : List ℕ → Worked

@@ -14,7 +14,6 @@ use Rattle.delay.specs.Stamps.{Wire}
 use Rattle.state.specs.State.{State}
 use Rattle.state.specs.Changed.{lowered}
 use Rattle.state.specs.WellFormed.{WellFormed}
-use Rattle.continuity.specs.declared.CcmValues.{CcmValues}
 use Rattle.continuity.specs.Continuity.{ccmOctets}
 use Rattle.continuity.proofs.Laid.{ccm-long}
 use Rattle.requests.proofs.Laid.{lmm-long, dmm-long}
@@ -25,7 +24,7 @@ use Rattle.frame.specs.Head.{flagsOf, startOf}
 use Rattle.incoming.specs.Message.{messageOf, judgedOf}
 use Rattle.demands.specs.Calls.{Arrival, Call, new-setting, frame, tick, send-LMM, send-DMM, Answer, refused, dropped, passed, taken, written, loss, delay, delays, done, standing, Outcome, OnWire, Box}
 use Rattle.demands.specs.Cases.{pdu, opcode, OwnLevel, Sound, Flag, on, off, Stands}
-use Rattle.demands.specs.Said.{Said, ccmFrom, lmmFrom, dmmFrom, tick-2, tick-3, tick-lowers, tick-sends, lmm-2, lmm-3, lmm-sends, dmm-2, dmm-6, dmm-3, dmm-sends, rule-6, Reply, lbr, lmr, dmr}
+use Rattle.demands.specs.Said.{Said, ccmValues, ccmFrom, lmmFrom, dmmFrom, tick-2, tick-3, tick-lowers, tick-sends, lmm-2, lmm-3, lmm-sends, dmm-2, dmm-6, dmm-3, dmm-sends, rule-6, Reply, lbr, lmr, dmr}
 use Rattle.demands.specs.Ours.{Follows}
 use Rattle.demands.proofs.Rows.{row-known, row-least}
 use Rattle.demands.proofs.Messages.{judged, uncut}
@@ -35,7 +34,7 @@ use Rattle.lossruns.specs.Runs.{Each, NoSetting}
 use Rattle.lossruns.proofs.Meets.{meets}
 use Rattle.lossruns.proofs.Whole.{whole}
 use Rattle.timing.specs.Runs.{since}
-use Rattle.order.specs.Demand2.{InMemory, ccmValues, CcmSent, ReplyBack, Demand2}
+use Rattle.order.specs.Demand2.{InMemory, CcmSent, ReplyBack, Demand2}
 use Rattle.order.specs.Demand2 as back
 
 -- the length of what was written, one more, to tell that answer from all others

@@ -12,12 +12,11 @@ use Rattle.delay.specs.declared.Stamp.{Stamp}
 use Rattle.delay.specs.Stamps.{Wire}
 use Rattle.state.specs.State.{State}
 use Rattle.state.specs.Changed.{lowered}
-use Rattle.continuity.specs.declared.CcmValues.{CcmValues}
 use Rattle.opcodes.specs.declared.Handler.the-variants.{ReaderOnly, LossReply, DelayReply}
 use Rattle.fields.specs.Fixed.{transactionOf, lossOf, delayOf}
 use Rattle.demands.specs.Calls.{Arrival, Call, frame, tick, send-LMM, send-DMM, written, OnWire, Box}
 use Rattle.demands.specs.Cases.{opcode, OwnLevel, Sound, Flag, Stands}
-use Rattle.demands.specs.Said.{Reply}
+use Rattle.demands.specs.Said.{ccmValues, Reply}
 use Rattle.demands.specs.Ours.{Follows}
 use Rattle.readback.specs.Sent.{CcmBack, LmmBack, DmmBack}
 use Rattle.readback.specs.Replies.{Answers}
@@ -29,10 +28,6 @@ pub record InMemory (s : State) : Type 0 where
   pub settings : Shaped slots (s .settings)
   pub sent : s .sent < 2 ^ 32
   pub received : s .received < 2 ^ 32
-
--- what a CCM says: neither sequence nor counts are used
-abbrev pub ccmValues : State → ℕ → CcmValues
-ccmValues s rdi = record { level = s .settings .level; rdi = rdi; period = s .settings .period; sequence = 0; mep = s .settings .mep; txfcf = 0; rxfcb = 0; txfcb = 0 }
 
 -- a CCM was sent by a tick of the state s: it reads back as our settings, and RDI is on exactly where a condition stands after the lowering
 pub record CcmSent (s : State) (buffer : List ℕ) : Type 0 where

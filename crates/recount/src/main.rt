@@ -14,7 +14,7 @@ use replies::recount;
 const CHUNK: usize = 16384;
 
 // Room for a record of each.
-const ROOM: usize = 24576;
+const ROOM: usize = CHUNK / REPLY * LINE;
 
 // The session behind a chunk, and whether more may come.
 struct Turn {

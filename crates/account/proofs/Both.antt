@@ -8,7 +8,8 @@ use lib.Dec.{eqb}
 use lib.ListN.{length, length-map}
 use Rattle.loss.specs.declared.LossAnswer.{LossAnswer}
 use Rattle.loss.specs.declared.LossAnswer.the-variants.{NotWellFormed, Full, First, Measured}
-use Rattle.loss.specs.Session.{Side, near, far, clearedSession, afterReading}
+use Rattle.session.specs.Session.{Side, near, far, clearedSession}
+use Rattle.loss.specs.Reading.{afterReading}
 use Rattle.account.specs.Account.{lost, losses}
 use Rattle.account.specs.Demand3.{Step, answers, Seen, refused, kept, loss, seen, accounted, Shows, Demand3, Counts, truthOf, shown, measurements, accountedBoth, Demand3Both}
 use Rattle.account.proofs.Meets.{meets}

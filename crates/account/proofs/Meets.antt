@@ -11,14 +11,16 @@ use lib.ListN.{length}
 use borrow.Author.Tests.{eqb-true, eqb-false}
 use Rattle.clock.specs.Run.{after}
 use Rattle.whole.proofs.Signed.{sub-add, pos-less, sub-up}
-use Rattle.loss.specs.declared.Readings.{Readings}
-use Rattle.loss.specs.declared.LossSession.{LossSession}
+use Rattle.session.specs.declared.Readings.{Readings}
+use Rattle.session.specs.declared.LossSession.{LossSession}
 use Rattle.loss.specs.declared.LossAnswer.the-variants.{Full}
 use Rattle.loss.specs.declared.Updated.{Updated}
-use Rattle.loss.specs.Growth.{growth}
-use Rattle.loss.specs.Session.{Side, near, far, sentOf, receivedOf, totalOf, lossOn, clearedSession, WellFormed, firstOf, measuredOf, afterReading}
-use Rattle.loss.proofs.Growing.{true-growth}
-use Rattle.loss.proofs.Laws.{well, cleared-well, stays, reading-first, reading-full, reading-measured, measured-total}
+use Rattle.growth.specs.Growth.{growth}
+use Rattle.session.specs.Session.{Side, near, far, sentOf, receivedOf, totalOf, clearedSession, WellFormed}
+use Rattle.loss.specs.Reading.{lossOn, firstOf, measuredOf, afterReading}
+use Rattle.growth.proofs.Growing.{true-growth}
+use Rattle.session.proofs.Laws.{well, cleared-well}
+use Rattle.loss.proofs.Laws.{stays, reading-first, reading-full, reading-measured, measured-total}
 use Rattle.account.specs.Account.{Truth, Grows, GoesOn, Sound, lost, losses, newest, total}
 use Rattle.account.specs.Demand3.{answers, leaves, kept, loss, seen, accounted, Shows, Agrees, Demand3}
 

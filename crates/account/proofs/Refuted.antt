@@ -8,10 +8,11 @@ use lib.ListN.{length, replicate, length-replicate}
 use borrow.Author.Tests.{eq-eqb}
 use Rattle.clock.specs.Run.{after}
 use Rattle.whole.specs.Tests.{choose}
-use Rattle.loss.specs.declared.Readings.{Readings}
-use Rattle.loss.specs.declared.LossSession.{LossSession}
+use Rattle.session.specs.declared.Readings.{Readings}
+use Rattle.session.specs.declared.LossSession.{LossSession}
 use Rattle.loss.specs.declared.Updated.{Updated}
-use Rattle.loss.specs.Session.{near, clearedSession, wellFormed, afterReading}
+use Rattle.session.specs.Session.{near, clearedSession, wellFormed}
+use Rattle.loss.specs.Reading.{afterReading}
 use Rattle.account.specs.Account.{Truth, Grows, losses, newest, total}
 use Rattle.account.specs.Demand3.{answers, leaves, Seen, refused, kept, loss, accounted, Demand3}
 use Rattle.account.specs.Wrong.{idle, repeats, invents, signless, wrapless, crossed, forgetful, renewing, ShutOut}

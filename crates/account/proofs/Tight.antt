@@ -4,8 +4,8 @@ use mathlib.Core.Path.{_≡_, sym, ap₂, _∙_}
 use mathlib.Core.List.{List, [], _∷_}
 use native.Mathlib.Omega.{arith}
 use lib.ListN.{length}
-use Rattle.loss.specs.declared.Readings.{Readings}
-use Rattle.loss.specs.Session.{Side, near, far, sentOf, receivedOf, clearedSession}
+use Rattle.session.specs.declared.Readings.{Readings}
+use Rattle.session.specs.Session.{Side, near, far, sentOf, receivedOf, clearedSession}
 use Rattle.account.specs.Account.{Truth, Grows, GoesOn, Sound}
 use Rattle.account.specs.Demand3.{Step, answers, Shows, Agrees, Demand3, Small, Tight}
 use Rattle.account.proofs.Both.{pairs, pairs-seen}

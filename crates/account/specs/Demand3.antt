@@ -7,12 +7,12 @@ use mathlib.Core.List.{List, [], _∷_, map}
 use lib.IntN.{ℤ}
 use lib.ListN.{length}
 use Rattle.clock.specs.Run.{after}
-use Rattle.loss.specs.declared.Readings.{Readings}
-use Rattle.loss.specs.declared.LossSession.{LossSession}
+use Rattle.session.specs.declared.Readings.{Readings}
+use Rattle.session.specs.declared.LossSession.{LossSession}
 use Rattle.loss.specs.declared.LossAnswer.{LossAnswer}
 use Rattle.loss.specs.declared.LossAnswer.the-variants.{NotWellFormed, Full, First, Measured}
 use Rattle.loss.specs.declared.Updated.{Updated}
-use Rattle.loss.specs.Session.{Side, near, far, sentOf, receivedOf, totalOf, clearedSession}
+use Rattle.session.specs.Session.{Side, near, far, sentOf, receivedOf, totalOf, clearedSession}
 use Rattle.account.specs.Account.{Truth, Sound, lost, losses, total}
 
 abbrev pub Step : Type 0

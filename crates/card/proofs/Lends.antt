@@ -2,17 +2,17 @@
 use mathlib.Core.Path.{_≡_, refl, sym, ap, ap₂, _∙_}
 use mathlib.Core.List.{List, _∷_, map}
 use Rattle.clock.specs.Run.{after}
-use Rattle.loss.specs.declared.Readings.{Readings}
-use Rattle.loss.specs.declared.LossSession.{LossSession}
+use Rattle.session.specs.declared.Readings.{Readings}
+use Rattle.session.specs.declared.LossSession.{LossSession}
 use Rattle.loss.specs.declared.LossTold.{LossTold}
-use Rattle.loss.specs.Session.{afterReading}
+use Rattle.loss.specs.Reading.{afterReading}
 use Rattle.loss.specs.Told.{told}
 use Rattle.loss.proofs.Numbers.{told-numbers}
 use Rattle.account.specs.Demand3.{answers, leaves}
 use Rattle.card.specs.Lent.{Lent, LentRun, none, more, Lends}
 
-pub answer-lent-one : (s : LossSession) (r : Readings) (t t′ : LossTold) (e e′ : LossSession) → Lent s r t e → Lent s r t′ e′ → (t ≡ t′) × (e ≡ e′)
-answer-lent-one s r t t′ e e′ p q = (p .0 ∙ sym (q .0), p .1 ∙ sym (q .1))
+one : (s : LossSession) (r : Readings) (t t′ : LossTold) (e e′ : LossSession) → Lent s r t e → Lent s r t′ e′ → (t ≡ t′) × (e ≡ e′)
+one s r t t′ e e′ p q = (p .0 ∙ sym (q .0), p .1 ∙ sym (q .1))
 
 runs : {s e : LossSession} {rs : List Readings} {ts : List LossTold} → LentRun s rs ts e
     → (ts ≡ map told (answers afterReading s rs)) × (e ≡ leaves afterReading s rs)
@@ -25,4 +25,4 @@ runs (more {s = s} {m = m} {r = r} {rs = rs} p q) =
     )
 
 pub lends : Lends
-lends = record { one = answer-lent-one; runs = λ s rs ts e p. runs p }
+lends = record { one = one; runs = λ s rs ts e p. runs p }

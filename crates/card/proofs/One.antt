@@ -1,5 +1,4 @@
--- Two outcomes that a contract allows are equal. `answer` is stated over `Reads.Post`, which the check reads off the source's own clauses;
--- the lent function has no such reading, and its clause is `Lent` itself (proofs/Lends.antt). Assumes nothing.
+-- Two results that the contract allows are equal. Stated over `Reads.Post`, which the check reads off the source's own clauses. Assumes nothing.
 use mathlib.Core.Path.{_≡_, sym, _∙_}
 use Rattle.card.proofs.answer.Reads as answer
 

@@ -1,10 +1,10 @@
 -- A session that is lent: the same rule, told in the paper's numbers. Definitions and statements only.
 use mathlib.Core.Path.{_≡_}
 use mathlib.Core.List.{List, [], _∷_, map}
-use Rattle.loss.specs.declared.Readings.{Readings}
-use Rattle.loss.specs.declared.LossSession.{LossSession}
+use Rattle.session.specs.declared.Readings.{Readings}
+use Rattle.session.specs.declared.LossSession.{LossSession}
 use Rattle.loss.specs.declared.LossTold.{LossTold}
-use Rattle.loss.specs.Session.{afterReading}
+use Rattle.loss.specs.Reading.{afterReading}
 use Rattle.loss.specs.Told.{told, numbersOf}
 use Rattle.account.specs.Demand3.{answers, leaves}
 use Rattle.card.specs.declared.Answered.{Answered}

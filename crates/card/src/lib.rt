@@ -1,10 +1,10 @@
 // The sheet side of the card: a loss session in fixed memory, lent and updated where it lies, from four readings. Rule 7, last sentence.
-ghost use Rattle.loss.specs.Session.{readings};
-ghost use Rattle.card.specs.Lent.{readingOf, Lent};
+ghost use Rattle.session.specs.Session.{readings};
+ghost use Rattle.card.specs.Lent.{readingOf};
 ghost use mathlib.Core.Path.{_≡_};
-use loss::LossSession;
 use loss::LossTold;
-use loss::Readings;
+use session::LossSession;
+use session::Readings;
 
 // A reading in the paper's numbers, and the session after it.
 pub struct Answered {
@@ -16,7 +16,7 @@ pub struct Answered {
 pub fn answer(s: LossSession, txf: u32, rxf: u32, txb: u32, ours: u32) -> Answered
     ensures { λ r. ⌜ r ≡ readingOf s (readings txf rxf txb ours) ⌝ }
 {
-    let u = loss::take_reading(
+    let u = lossstep::take_reading(
         s,
         Readings {
             txf,
@@ -29,13 +29,4 @@ pub fn answer(s: LossSession, txf: u32, rxf: u32, txb: u32, ours: u32) -> Answer
     let told = loss::tell(a);
     let session = u.session;
     Answered { told, session }
-}
-
-// The same where the session lies: the one function that is lent a struct. It only calls and stores.
-pub fn answer_lent(s: &mut LossSession, txf: u32, rxf: u32, txb: u32, ours: u32) -> LossTold
-    ensures { λ t. ⌜ Lent (now (s .entry)) (readings txf rxf txb ours) t (now (s .exit)) ⌝ }
-{
-    let u = answer(*s, txf, rxf, txb, ours);
-    *s = u.session;
-    u.told
 }

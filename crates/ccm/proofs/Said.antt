@@ -5,10 +5,10 @@ use mathlib.Core.Bool.{Bool}
 use mathlib.Core.List.{List}
 use lib.ListN.{length}
 use Rattle.state.specs.State.{State}
-use Rattle.conditions.specs.Standing.{standing}
-use Rattle.conditions.specs.Conditions.{flag}
-use Rattle.conditions.proofs.Rules.{standing-is}
-use Rattle.conditions.proofs.Show.{shows}
+use Rattle.standing.specs.Standing.{standing}
+use Rattle.standing.specs.Flag.{flag}
+use Rattle.standing.proofs.Rules.{standing-is}
+use Rattle.standing.proofs.Flags.{shows}
 use Rattle.continuity.specs.declared.CcmValues.{CcmValues}
 use Rattle.continuity.specs.Continuity.{ccmOctets}
 use Rattle.continuity.proofs.Laid.{ccm-long}

@@ -5,8 +5,8 @@ use mathlib.Core.Path.{_≡_}
 use mathlib.Core.List.{List}
 use lib.ListN.{length}
 use Rattle.state.specs.State.{State}
-use Rattle.conditions.specs.Standing.{Stands, standing}
-use Rattle.conditions.specs.Conditions.{flag, Shows}
+use Rattle.standing.specs.Standing.{Stands, standing}
+use Rattle.standing.specs.Flag.{flag, Shows}
 use Rattle.continuity.specs.declared.CcmValues.{CcmValues}
 use Rattle.continuity.specs.Continuity.{ccmOctets}
 

@@ -4,8 +4,6 @@ ghost use lib.ListN.{length};
 ghost use Rattle.state.specs.State.{lying};
 ghost use Rattle.message.specs.Buffer.{writtenOf, bufferOf, told, numbersOf};
 ghost use Rattle.ccm.specs.Ccm.{ccmOf};
-use conditions::any_stands;
-use conditions::flag_of;
 use continuity::CcmValues;
 use continuity::write_ccm;
 use message::parts::Written;
@@ -13,6 +11,8 @@ use settings::LEVEL;
 use settings::MEP;
 use settings::PEERS;
 use settings::PERIOD;
+use standing::any_stands;
+use standing::flag_of;
 
 // Writes the CCM of a state.
 pub fn write_own_ccm(

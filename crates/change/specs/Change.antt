@@ -5,7 +5,8 @@ use Prim.Native.Nat.{ℕ, _+_, _%_, _^_}
 use Rattle.loss.specs.declared.LossAnswer.{LossAnswer}
 use Rattle.loss.specs.declared.LossAnswer.the-variants as loss
 use Rattle.loss.specs.declared.Updated.{Updated}
-use Rattle.loss.specs.Session.{readings, afterReading}
+use Rattle.session.specs.Session.{readings}
+use Rattle.loss.specs.Reading.{afterReading}
 use Rattle.state.specs.State.{State}
 use Rattle.state.specs.Changed.{put, withSession}
 use Rattle.state.specs.Changed as word

@@ -6,10 +6,10 @@ ghost use Rattle.change.specs.Change.{answerOf, readTaken, ended, oneMor
 use answers::Drop;
 use answers::FrameAnswer;
 use loss::LossAnswer;
-use loss::Readings;
-use loss::take_reading;
+use lossstep::take_reading;
 use period::hold_of;
 use places::put_session;
+use session::Readings;
 use settings::PEERS;
 use settings::PERIOD;
 use signals::Signal;

@@ -5,9 +5,9 @@ use mathlib.Core.Bool.{Bool, true, false, not}
 use mathlib.Core.Logic.{⊎-elim}
 use borrow.Author.Tests.{not-true, not-false, eqb-false}
 use Rattle.whole.proofs.Tests.{known}
-use Rattle.loss.specs.declared.LossSession.{LossSession}
-use Rattle.loss.specs.Session.{clearedSession}
-use Rattle.loss.proofs.Laws.{sessions}
+use Rattle.session.specs.declared.LossSession.{LossSession}
+use Rattle.session.specs.Session.{clearedSession}
+use Rattle.session.proofs.Laws.{cleared-well}
 use Rattle.state.specs.State.{State}
 use Rattle.state.specs.WellFormed.{WellFormed, wellFormed}
 use Rattle.state.specs.Changed.{withSession}
@@ -68,7 +68,7 @@ module _ (s : State) where
     rdi = w .rdi;
     no-timer = w .no-timer;
     no-rdi = w .no-rdi;
-    session = sessions .cleared-well;
+    session = cleared-well;
   }
 
   stays : WellFormed s → WellFormed (clearOf s .state)

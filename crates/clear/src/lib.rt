@@ -3,10 +3,10 @@ ghost use mathlib.Core.Path.{_≡_};
 ghost use Rattle.state.specs.State.{lying};
 ghost use Rattle.places.specs.Stored.{Whole};
 ghost use Rattle.clear.specs.Clear.{ended, clearOf, told, numbersOf};
-use loss::cleared;
 use places::put_session;
+use session::cleared;
 use settings::PEERS;
-use state::is_well_formed;
+use wellformed::is_well_formed;
 
 // What a clear is answered.
 pub enum ClearAnswer {

@@ -1,4 +1,3 @@
 pub mod Table
-pub mod Rules
 pub mod Show
 pub mod One

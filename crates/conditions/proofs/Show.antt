@@ -12,15 +12,12 @@ use Rattle.settings.specs.Settings.{slots}
 use Rattle.state.specs.State.{State}
 use Rattle.state.specs.WellFormed.{WellFormed, wellFormed}
 use Rattle.state.proofs.Rules.{well-formed-is}
+use Rattle.standing.specs.Standing.{runs}
+use Rattle.standing.specs.Flag.{flag, Shows}
+use Rattle.standing.proofs.Flags.{shows}
 use Rattle.conditions.specs.declared.ConditionsTold.{ConditionsTold}
-use Rattle.conditions.specs.Standing.{runs}
-use Rattle.conditions.specs.Conditions.{flag, lostAt, shownOf, noConditions, answered, conditionsOf, Shows, ConditionsShow}
+use Rattle.conditions.specs.Conditions.{lostAt, shownOf, noConditions, answered, conditionsOf, ConditionsShow}
 use Rattle.conditions.proofs.Table.{table-length, table-at}
-
--- a flag shows what its test means
-pub shows : (b : Bool) {P : Type 0} → (b ≡ true → P) → (P → b ≡ true) → Shows (flag b) P
-shows true to from = record { bit = omega arith; one = (λ e. to refl, λ p. refl) }
-shows false to from = record { bit = omega arith; one = (λ e. absurd (omega arith), λ p. absurd (false≢true (from p))) }
 
 -- a condition stands while its timer runs
 timed : (timer : ℕ) → Shows (flag (runs timer)) (0 < timer)

@@ -9,13 +9,10 @@ use lib.ListN.{length, getD, replicate}
 use Rattle.settings.specs.Settings.{slots}
 use Rattle.state.specs.State.{State}
 use Rattle.state.specs.WellFormed.{WellFormed, wellFormed}
+use Rattle.standing.specs.Standing.{runs}
+use Rattle.standing.specs.Flag.{flag, Shows}
 use Rattle.conditions.specs.declared.ConditionFlags.{ConditionFlags}
 use Rattle.conditions.specs.declared.ConditionsTold.{ConditionsTold}
-use Rattle.conditions.specs.Standing.{runs}
-
--- 1 where it holds, else 0
-abbrev pub flag : Bool → ℕ
-flag holds = cond holds 1 0
 
 -- f of 0, of 1, and so on, n of them
 unfoldable pub table : (ℕ → ℕ) → ℕ → List ℕ
@@ -61,11 +58,6 @@ unfoldable pub conditionsOf : State → ConditionsTold
 conditionsOf s = cond (wellFormed s) (answered 0 (shownOf s)) (answered 2 noConditions)
 
 -- ── what the flags mean ──
-
--- 0 or 1, and 1 exactly where P holds
-pub record Shows (value : ℕ) (P : Type 0) : Type 0 where
-  pub bit : value ≤ 1
-  pub one : (value ≡ 1) ↔ P
 
 -- what is said of every state
 pub record ConditionsShow : Type 0 where

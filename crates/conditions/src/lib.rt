@@ -1,21 +1,19 @@
-// Which conditions stand: whether any does, for the RDI of our own CCM, and each of them for whoever asks. Both only read the state.
+// Which conditions stand: each of them, for whoever asks. The call only reads the state.
 // The answer is a struct with the refusal's number in it, and no enum: an enum that holds an array is not covered by the toolchain.
 ghost use mathlib.Core.Path.{_≡_};
-ghost use lib.ListN.{take};
 ghost use Rattle.settings.specs.Settings.{slots};
 ghost use Rattle.state.specs.State.{lying};
-ghost use Rattle.conditions.specs.Standing.{standing};
-ghost use Rattle.conditions.specs.Conditions.{flag, table, lostAt, shownOf, conditionsOf, noConditions};
+ghost use Rattle.conditions.specs.Conditions.{table, lostAt, shownOf, conditionsOf, noConditions};
 use settings::COUNT;
 use settings::PEERS;
+use standing::flag_of;
 use state::AIS;
 use state::LCK;
 use state::MISMERGE;
 use state::UNEXPECTED_LEVEL;
 use state::UNEXPECTED_MEP;
 use state::UNEXPECTED_PERIOD;
-use state::is_well_formed;
-use words::is_absent;
+use wellformed::is_well_formed;
 
 // Each condition, 1 while it stands and else 0; and the RDI that each peer last sent.
 #[repr(C)]
@@ -35,49 +33,6 @@ pub struct ConditionFlags {
 pub struct ConditionsTold {
     pub refusal: u32,
     pub conditions: ConditionFlags,
-}
-
-// The used slots; all of them where there are fewer.
-fn front(slots: &[u32], count: u32) -> &[u32]
-    ensures { λ r. ⌜ now r ≡ take count (now (slots .entry)) ⌝ }
-{
-    let used = count as usize;
-    if slots.len() < used {
-        return slots;
-    }
-    &slots[..used]
-}
-
-// Tells whether any condition stands.
-pub fn any_stands(
-    set: &[u32; 4],
-    names: &[u8; 60],
-    ids: &[u32; PEERS],
-    timers: &[u32; PEERS],
-    rdi: &[u32; PEERS],
-    run: &[u32; 15],
-    totals: &[i64; 2],
-) -> bool
-    ensures { λ r. ⌜ r ≡ standing (lying (set .entry) (names .entry) (ids .entry) (timers .entry) (rdi .entry) (run .entry) (totals .entry)) ⌝ }
-{
-    let heard = is_absent(front(timers, set[COUNT]), 0);
-    !heard
-        | (0 < run[MISMERGE])
-        | (0 < run[UNEXPECTED_LEVEL])
-        | (0 < run[UNEXPECTED_MEP])
-        | (0 < run[UNEXPECTED_PERIOD])
-        | (0 < run[AIS])
-        | (0 < run[LCK])
-}
-
-// 1 where it holds, else 0.
-pub fn flag_of(holds: bool) -> u32
-    ensures { λ r. ⌜ r ≡ flag holds ⌝ }
-{
-    if holds {
-        return 1;
-    }
-    0
 }
 
 // Marks each slot that is used and whose timer is 0.

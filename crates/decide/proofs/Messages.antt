@@ -14,18 +14,18 @@ use Rattle.whole.proofs.Lists.{below-is}
 use Rattle.whole.proofs.Tests.{known as if-known}
 use Rattle.opcodes.specs.declared.Handler.{Handler}
 use Rattle.opcodes.specs.declared.Rule.{Rule}
-use Rattle.frame.specs.declared.reader.TlvAnswer.{TlvAnswer}
-use Rattle.frame.specs.declared.reader.TlvAnswer.the-variants as tlv
+use Rattle.reasons.specs.declared.TlvAnswer.{TlvAnswer}
+use Rattle.reasons.specs.declared.TlvAnswer.the-variants as tlv
 use Rattle.frame.specs.Head.{pduOf, opcodeOf, flagsOf}
 use Rattle.opcodes.specs.Opcodes.{ruleOf}
-use Rattle.frame.specs.Reader.{answerOf}
+use Rattle.reader.specs.Reader.{answerOf}
 use Rattle.opcodes.proofs.Rules.{rule-none}
-use Rattle.incoming.specs.declared.MessageAnswer.{MessageAnswer}
-use Rattle.incoming.specs.declared.MessageAnswer.the-variants.{Message, PeriodCode, Bad}
+use Rattle.kinds.specs.declared.MessageAnswer.{MessageAnswer}
+use Rattle.kinds.specs.declared.MessageAnswer.the-variants.{Message, PeriodCode, Bad}
 use Rattle.incoming.specs.Good.{Good, isBad}
 use Rattle.incoming.specs.Message.{periodCode, codeGood, judgedOf, unlessBad, messageOf}
 use Rattle.incoming.proofs.Goods.{good-frames}
-use Rattle.decide.specs.Handle.{roomFor}
+use Rattle.handle.specs.Handle.{roomFor}
 
 -- the handler of a message, and any other answer by another word
 handlerIn : Handler → MessageAnswer → Handler

@@ -4,18 +4,18 @@ use mathlib.Core.Path.{_≡_, sym, ap, _∙_}
 use mathlib.Core.Bool.{Bool, true, false, cond}
 use mathlib.Core.List.{List}
 use Rattle.settings.specs.Settings.{Settings}
-use Rattle.delay.specs.declared.Stamp.{Stamp}
+use Rattle.stamps.specs.declared.Stamp.{Stamp}
 use Rattle.answers.specs.declared.Drop.the-variants as drop
 use Rattle.opcodes.specs.declared.Handler.{Handler}
 use Rattle.opcodes.specs.declared.Rule.{Rule}
-use Rattle.frame.specs.declared.reader.Bad.{Bad}
+use Rattle.reasons.specs.declared.Bad.{Bad}
 use Rattle.frame.specs.Head.{pduOf, opcodeOf}
 use Rattle.opcodes.specs.Opcodes.{ruleOf, handled}
-use Rattle.incoming.specs.declared.MessageAnswer.{MessageAnswer}
-use Rattle.incoming.specs.declared.MessageAnswer.the-variants as message
+use Rattle.kinds.specs.declared.MessageAnswer.{MessageAnswer}
+use Rattle.kinds.specs.declared.MessageAnswer.the-variants as message
 use Rattle.incoming.specs.Message.{messageOf}
-use Rattle.decide.specs.declared.Decision.the-variants.{Drops}
-use Rattle.decide.specs.Handle.{handleOf}
+use Rattle.handle.specs.declared.Decision.the-variants.{Drops}
+use Rattle.handle.specs.Handle.{handleOf}
 use Rattle.decide.specs.Decide.{isOurs, dropFor, answeredOf, ownOf}
 
 -- the test that was made is the definition's

@@ -4,15 +4,15 @@ use mathlib.Core.Bool.{Bool, _&&_, cond}
 use mathlib.Core.List.{List}
 use lib.Dec.{eqb}
 use Rattle.settings.specs.Settings.{Settings}
-use Rattle.delay.specs.declared.Stamp.{Stamp}
+use Rattle.stamps.specs.declared.Stamp.{Stamp}
 use Rattle.answers.specs.declared.Drop.{Drop}
 use Rattle.answers.specs.declared.Drop.the-variants as drop
-use Rattle.frame.specs.declared.reader.Bad.{Bad}
-use Rattle.frame.specs.declared.reader.Bad.the-variants.{Length, Short, Opcode, Offset, CutOff}
+use Rattle.reasons.specs.declared.Bad.{Bad}
+use Rattle.reasons.specs.declared.Bad.the-variants.{Length, Short, Opcode, Offset, CutOff}
 use Rattle.frame.specs.Head.{destinationOf, sourceOf, pduOf, levelOf, opcodeOf}
 use Rattle.opcodes.specs.Opcodes.{ruleOf, handled}
-use Rattle.incoming.specs.declared.MessageAnswer.{MessageAnswer}
-use Rattle.incoming.specs.declared.MessageAnswer.the-variants as message
+use Rattle.kinds.specs.declared.MessageAnswer.{MessageAnswer}
+use Rattle.kinds.specs.declared.MessageAnswer.the-variants as message
 use Rattle.incoming.specs.Message.{messageOf}
 use Rattle.incoming.specs.Told.{goodOpcode}
 use Rattle.class.specs.declared.Side.{Side}
@@ -23,9 +23,9 @@ use Rattle.class.specs.Class.{classOf}
 use Rattle.ours.specs.Ours.{forUs}
 use Rattle.change.specs.declared.Change.{Change}
 use Rattle.change.specs.declared.Change.the-variants as change
-use Rattle.decide.specs.declared.Decision.{Decision}
-use Rattle.decide.specs.declared.Decision.the-variants.{Drops, Passes, Changes}
-use Rattle.decide.specs.Handle.{handleOf}
+use Rattle.handle.specs.declared.Decision.{Decision}
+use Rattle.handle.specs.declared.Decision.the-variants.{Drops, Passes, Changes}
+use Rattle.handle.specs.Handle.{handleOf}
 
 -- not D6: the frame is for the box of these two addresses, ours and the loss peer's
 abbrev pub isOurs : List ℕ → List ℕ → List ℕ → Bool

@@ -1,2 +1,1 @@
-pub mod Handle
 pub mod Decide

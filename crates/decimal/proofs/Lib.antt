@@ -1,5 +1,2 @@
 pub mod Put
 pub mod Decimal
-pub mod Turns
-pub mod Sign
-pub mod One

@@ -10,10 +10,11 @@ use Rattle.whole.specs.Tests.{choose}
 use Rattle.whole.specs.Lists.{every}
 use Rattle.whole.proofs.Tests.{known}
 use Rattle.whole.proofs.Signed.{sub-size, less-size}
-use Rattle.delay.specs.declared.Stamp.{Stamp}
+use Rattle.stamps.specs.declared.Stamp.{Stamp}
 use Rattle.delay.specs.declared.DelayAnswer.{DelayAnswer}
 use Rattle.delay.specs.declared.DelayAnswer.the-variants.{BadStamp, TooLarge, TwoWay, AllWays}
-use Rattle.delay.specs.Stamps.{instant, between, paired, usable, Wire}
+use Rattle.delay.specs.Used.{instant, between, paired, usable}
+use Rattle.stamps.specs.Stamps.{Wire}
 use Rattle.delay.specs.Delays.{there-and-back, without-stay, formed, held, delaysOf, DelayLaws}
 
 -- ── sizes ──

@@ -6,10 +6,10 @@ use lib.IntN.{pos}
 use Rattle.whole.specs.Tests.{choose}
 use Rattle.whole.specs.Lists.{every}
 use Rattle.whole.proofs.Tests.{choose-map}
-use Rattle.delay.specs.declared.Stamp.{Stamp}
+use Rattle.stamps.specs.declared.Stamp.{Stamp}
 use Rattle.delay.specs.declared.DelayAnswer.{DelayAnswer}
 use Rattle.delay.specs.declared.DelayAnswer.the-variants.{BadStamp, TooLarge, TwoWay, AllWays}
-use Rattle.delay.specs.Stamps.{between, paired, usable}
+use Rattle.delay.specs.Used.{between, paired, usable}
 use Rattle.delay.specs.Delays.{there-and-back, without-stay, formed, held, delaysOf}
 use Rattle.delay.specs.Told.{told, numbersOf, DelayNumbers}
 

@@ -9,10 +9,11 @@ use lib.IntN.{ℤ, _-ℤ_}
 use lib.Signed.{mag}
 use Rattle.whole.specs.Tests.{choose}
 use Rattle.whole.specs.Lists.{every}
-use Rattle.delay.specs.declared.Stamp.{Stamp}
+use Rattle.stamps.specs.declared.Stamp.{Stamp}
 use Rattle.delay.specs.declared.DelayAnswer.{DelayAnswer}
 use Rattle.delay.specs.declared.DelayAnswer.the-variants.{BadStamp, TooLarge, TwoWay, AllWays}
-use Rattle.delay.specs.Stamps.{between, paired, usable, Wire}
+use Rattle.delay.specs.Used.{between, paired, usable}
+use Rattle.stamps.specs.Stamps.{Wire}
 
 -- there and back, the responder's own time in it; and without it
 abbrev pub there-and-back : Stamp → Stamp → ℤ

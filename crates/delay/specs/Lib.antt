@@ -1,3 +1,3 @@
-pub mod Stamps
+pub mod Used
 pub mod Delays
 pub mod Told

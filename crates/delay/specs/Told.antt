@@ -7,12 +7,18 @@ use mathlib.Core.List.{[], _∷_}
 use lib.IntN.{ℤ, pos}
 use Rattle.whole.specs.Tests.{choose}
 use Rattle.whole.specs.Lists.{every}
-use Rattle.delay.specs.declared.Stamp.{Stamp}
+use Rattle.stamps.specs.declared.Stamp.{Stamp}
 use Rattle.delay.specs.declared.DelayAnswer.{DelayAnswer}
 use Rattle.delay.specs.declared.DelayAnswer.the-variants.{BadStamp, TooLarge, TwoWay, AllWays}
-use Rattle.delay.specs.declared.DelayTold.{DelayTold}
-use Rattle.delay.specs.Stamps.{between, paired, usable}
+use Rattle.delay.specs.Used.{between, paired, usable}
 use Rattle.delay.specs.Delays.{there-and-back, without-stay, formed, held}
+
+-- the drop, or 0, and the three delays
+pub record DelayTold : Type 0 where
+  pub drop : ℕ
+  pub twoway : ℤ
+  pub far : ℤ
+  pub near : ℤ
 
 abbrev pub dropped : ℕ → DelayTold
 dropped n = record { drop = n; twoway = pos 0; far = pos 0; near = pos 0 }

@@ -1,19 +1,15 @@
-// Delay measurement: stamps of any content, and the delays of a reply in signed nanoseconds. Rule 8 of the paper.
+// Delay measurement: the delays of a reply in signed nanoseconds, from stamps of any content. Rule 8 of the paper.
 ghost use mathlib.Core.Path.{_≡_};
 ghost use Prim.Native.Nat.{_≤_};
 ghost use lib.IntN.{natAbs, _-ℤ_};
 ghost use mir.Syntax.{w64};
 ghost use mir.Val.{SFits};
-ghost use Rattle.delay.specs.Stamps.{good, given, instant, between, paired, usable};
+ghost use Rattle.delay.specs.Used.{instant, between, paired, usable};
 ghost use Rattle.delay.specs.Delays.{delaysOf};
 ghost use Rattle.delay.specs.Told.{told, numbersOf};
-
-// A time as the wire has it. Any content is a value: too many nanoseconds are answered, not assumed away.
-#[repr(C)]
-pub struct Stamp {
-    pub seconds: u32,
-    pub nanoseconds: u32,
-}
+use stamps::Stamp;
+use stamps::given_stamp;
+use stamps::good_stamp;
 
 // What a delay reply is answered.
 pub enum DelayAnswer {
@@ -25,29 +21,6 @@ pub enum DelayAnswer {
     TwoWay { twoway: i64 },
     // It gave both: there and back without its own time, and each way by itself.
     AllWays { twoway: i64, far: i64, near: i64 },
-}
-
-// An answer in the paper's numbers: the drop, or 0, and the three delays.
-#[repr(C)]
-pub struct DelayTold {
-    pub drop: u32,
-    pub twoway: i64,
-    pub far: i64,
-    pub near: i64,
-}
-
-// Whether a stamp has at most 999,999,999 nanoseconds.
-pub fn good_stamp(s: Stamp) -> bool
-    ensures { λ r. ⌜ r ≡ good s ⌝ }
-{
-    s.nanoseconds <= 999999999
-}
-
-// Whether a stamp is given: all 64 bits zero means that it is not.
-pub fn given_stamp(s: Stamp) -> bool
-    ensures { λ r. ⌜ r ≡ given s ⌝ }
-{
-    !((s.seconds == 0) & (s.nanoseconds == 0))
 }
 
 // A stamp in nanoseconds.
@@ -105,37 +78,5 @@ pub fn measure_delay(txf: Stamp, rxf: Stamp, txb: Stamp, here: Stamp) -> DelayAn
         twoway: less(all, difference(rxf, txb)),
         far: difference(txf, rxf),
         near: difference(txb, here),
-    }
-}
-
-// An answer in the paper's numbers.
-pub fn tell(a: DelayAnswer) -> DelayTold
-    ensures { λ r. ⌜ r ≡ told a ⌝ }
-{
-    match a {
-        DelayAnswer::BadStamp => DelayTold {
-            drop: 7,
-            twoway: 0,
-            far: 0,
-            near: 0,
-        },
-        DelayAnswer::TooLarge => DelayTold {
-            drop: 8,
-            twoway: 0,
-            far: 0,
-            near: 0,
-        },
-        DelayAnswer::TwoWay { twoway } => DelayTold {
-            drop: 0,
-            twoway,
-            far: 0,
-            near: 0,
-        },
-        DelayAnswer::AllWays { twoway, far, near } => DelayTold {
-            drop: 0,
-            twoway,
-            far,
-            near,
-        },
     }
 }

@@ -8,7 +8,7 @@ use borrow.Author.Tests.{eq-eqb, ne-eqb}
 use Rattle.whole.specs.Tests.{choose}
 use Rattle.opcodes.specs.Opcodes.{ruleOf}
 use Rattle.opcodes.specs.declared.Handler.the-variants.{Continuity, Loopback, Alarm, Lock, LossReply, LossRequest, DelayReply, DelayRequest}
-use Rattle.incoming.specs.declared.MessageAnswer.the-variants.{Message, PeriodCode}
+use Rattle.kinds.specs.declared.MessageAnswer.the-variants.{Message, PeriodCode}
 use Rattle.incoming.specs.Message.{periodCode, alarmCode, judgedOf}
 use Rattle.demands.specs.Cases.{OneOf, here, there}
 use Rattle.demands.proofs.Rows.{first, none}

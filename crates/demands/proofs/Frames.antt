@@ -8,14 +8,14 @@ use lib.ListN.{length, drop}
 use borrow.Author.Tests.{le-leb}
 use Rattle.whole.proofs.Tests.{join, known as if-known}
 use Rattle.octets.specs.Numbers.{Octets}
-use Rattle.delay.specs.Stamps.{good}
+use Rattle.stamps.specs.Stamps.{good}
 use Rattle.opcodes.specs.declared.Handler.{Handler}
 use Rattle.opcodes.specs.Opcodes.{ruleOf}
-use Rattle.frame.specs.declared.reader.Bad.the-variants.{Offset, CutOff}
+use Rattle.reasons.specs.declared.Bad.the-variants.{Offset, CutOff}
 use Rattle.frame.specs.Head.{pduOf, opcodeOf, offsetOf, flagsOf, startOf}
 use Rattle.tlvs.specs.Tlvs.{walkFrom}
-use Rattle.frame.specs.Reader.{isCut}
-use Rattle.incoming.specs.declared.MessageAnswer.the-variants.{Message, PeriodCode}
+use Rattle.reader.specs.Reader.{isCut}
+use Rattle.kinds.specs.declared.MessageAnswer.the-variants.{Message, PeriodCode}
 use Rattle.incoming.specs.Message.{periodCode, codeGood, judgedOf, messageOf}
 use Rattle.state.specs.State.{State}
 use Rattle.state.proofs.Rules.{well-formed-is}
@@ -24,17 +24,19 @@ use Rattle.class.specs.declared.Class.{Class}
 use Rattle.class.specs.declared.Class.the-variants as class
 use Rattle.class.specs.Class.{classOf}
 use Rattle.class.proofs.Classes.{classes}
-use Rattle.decide.specs.declared.Decision.{Decision}
-use Rattle.decide.specs.declared.Decision.the-variants.{Drops}
-use Rattle.decide.specs.Handle.{handleOf}
+use Rattle.handle.specs.declared.Decision.{Decision}
+use Rattle.handle.specs.declared.Decision.the-variants.{Drops}
+use Rattle.handle.specs.Handle.{handleOf}
 use Rattle.decide.specs.Decide.{dropFor, byClass, ownOf, decideOf}
 use Rattle.decide.proofs.Own.{not-handled, found-bad, found-code, found-message}
-use Rattle.receive.specs.Frame.{carriedOut}
+use Rattle.carryout.specs.CarryOut.{carriedOut}
 use Rattle.receive.proofs.Stages.{heeded}
 use Rattle.demands.specs.Calls as call
 use Rattle.demands.specs.Calls.{Arrival, Outcome}
-use Rattle.demands.specs.Cases.{pdu, opcode, Heeded, OwnLevel, Handled, D5, D6, Sound}
-use Rattle.demands.specs.Ours.{sideOf, afterFrame, ours}
+use Rattle.demands.specs.Cases.{pdu, opcode, Heeded, OwnLevel}
+use Rattle.demands.specs.Drops.{Handled, D5, D6, Sound}
+use Rattle.demands.specs.Words.{sideOf}
+use Rattle.demands.specs.Ours.{afterFrame, ours}
 use Rattle.demands.proofs.Messages.{offset-bad, cut-off, judged, no-run-cuts, uncut, behind}
 use Rattle.demands.proofs.Rows.{row-least, row-handled, row-known, no-row}
 use Rattle.demands.proofs.Sixth.{ours-yes, ours-no}

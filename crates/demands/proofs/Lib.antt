@@ -11,8 +11,5 @@ pub mod Started
 pub mod Others
 pub mod Follows
 pub mod Every
-pub mod Kept
-pub mod Promised
 pub mod Tied
 pub mod Told
-pub mod Refuted

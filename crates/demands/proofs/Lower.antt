@@ -17,10 +17,11 @@ use Rattle.incoming.proofs.Numbers.{message-numbers}
 use Rattle.state.specs.State.{State}
 use Rattle.answers.specs.declared.Drop.the-variants as drop
 use Rattle.change.specs.declared.Change.the-variants as change
-use Rattle.decide.specs.declared.Decision.the-variants.{Drops, Changes}
+use Rattle.handle.specs.declared.Decision.the-variants.{Drops, Changes}
 use Rattle.decide.specs.Decide.{isOurs, belowOf}
 use Rattle.demands.specs.Calls.{Arrival}
-use Rattle.demands.specs.Cases.{pdu, opcode, Oam, Handled, ccm, Sound, GoodCcm}
+use Rattle.demands.specs.Cases.{pdu, opcode, Oam}
+use Rattle.demands.specs.Drops.{Handled, ccm, Sound, GoodCcm}
 use Rattle.demands.proofs.Messages.{headed, uncut, ends-run, behind}
 use Rattle.demands.proofs.Rows.{row-least, row-known}
 use Rattle.demands.proofs.Sixth.{ours-yes, ours-then}

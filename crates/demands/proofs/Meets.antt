@@ -13,12 +13,12 @@ use Rattle.whole.specs.Lists.{laid}
 use Rattle.whole.proofs.Tests.{join, split}
 use Rattle.octets.specs.Numbers.{Octets}
 use Rattle.period.specs.Periods.{holdOf}
-use Rattle.loss.specs.Session as Session
-use Rattle.loss.specs.Session.{afterReading}
+use Rattle.session.specs.Session as Session
+use Rattle.loss.specs.Reading.{afterReading, lossOn}
 use Rattle.loss.specs.declared.LossAnswer.the-variants as loss
 use Rattle.loss.proofs.Laws as Loss
 use Rattle.delay.specs.declared.DelayAnswer.{DelayAnswer}
-use Rattle.delay.specs.Stamps.{good}
+use Rattle.stamps.specs.Stamps.{good}
 use Rattle.state.specs.State.{State}
 use Rattle.state.specs.Changed.{put, heard, withSession}
 use Rattle.state.specs.Changed as word
@@ -27,10 +27,10 @@ use Rattle.state.proofs.Rules.{well-formed-is}
 use Rattle.opcodes.specs.declared.Handler.the-variants.{Continuity, Loopback, Alarm, Lock, LossReply, LossRequest, DelayReply, DelayRequest}
 use Rattle.opcodes.specs.Opcodes.{ruleOf}
 use Rattle.frame.specs.Head.{etherTypeOf, lengthGood, offsetOf, flagsOf}
-use Rattle.incoming.specs.declared.MessageAnswer.the-variants.{PeriodCode}
+use Rattle.kinds.specs.declared.MessageAnswer.the-variants.{PeriodCode}
 use Rattle.incoming.specs.Message.{periodCode, judgedOf}
 use Rattle.incoming.proofs.Goods.{fixed}
-use Rattle.fields.specs.Fixed.{ccmIn, megIn}
+use Rattle.ccmfields.specs.Ccm.{ccmIn, megIn}
 use Rattle.reply.specs.Replied.{cutOff}
 use Rattle.answers.specs.declared.Drop.the-variants as drop
 use Rattle.answers.specs.Told.{dropOf}
@@ -45,16 +45,20 @@ use Rattle.respond.specs.declared.Request.{Request}
 use Rattle.respond.specs.Respond.{fixedFor, replyFor, answerFor, respondedOf, leftAfter}
 use Rattle.class.specs.declared.Class.the-variants as class
 use Rattle.class.proofs.Classes.{classes}
-use Rattle.decide.specs.declared.Decision.the-variants.{Changes, Replies, Delays}
-use Rattle.decide.specs.Handle.{readingIn, handleOf}
+use Rattle.handle.specs.declared.Decision.the-variants.{Changes, Replies, Delays}
+use Rattle.handle.specs.Handle.{readingIn, handleOf}
 use Rattle.decide.specs.Decide.{countOf, belowOf, byClass}
-use Rattle.receive.specs.Frame.{delayAnswer, carriedOut}
+use Rattle.carryout.specs.CarryOut.{delayAnswer, carriedOut}
 use Rattle.receive.proofs.Stages.{refused-2, refused-1, refused-6}
 use Rattle.demands.specs.Calls as call
 use Rattle.demands.specs.Calls.{Arrival, leaves, refused, dropped, passed, written}
-use Rattle.demands.specs.Cases.{pdu, opcode, level, hold, OneOf, LengthGood, Heeded, Oam, OwnLevel, Handled, D4, D5, D6, Sound, code, GoodCcm, PeerAt, OwnCcm, FromPeer}
-use Rattle.demands.specs.Said as said
-use Rattle.demands.specs.Ours.{sideOf, frameAnswer, afterFrame, ours}
+use Rattle.demands.specs.Cases.{pdu, opcode, level, hold, OneOf, LengthGood, Heeded, Oam, OwnLevel}
+use Rattle.demands.specs.Drops.{Handled, D4, D5, D6, Sound, code, GoodCcm}
+use Rattle.demands.specs.Taken.{PeerAt, OwnCcm, FromPeer}
+use Rattle.demands.specs.Made as made
+use Rattle.demands.specs.Taken as taken
+use Rattle.demands.specs.Words.{sideOf, frameAnswer}
+use Rattle.demands.specs.Ours.{afterFrame, ours}
 use Rattle.demands.proofs.Frames.{decided, reached, by, left, third, fourth, fifth, sixth, seventh, handles}
 use Rattle.demands.proofs.Stamps.{untrue}
 use Rattle.demands.proofs.Stamps as Stamps
@@ -219,49 +223,49 @@ module _ (s : State) (a : Arrival) where
   no-room request c h = rw (c, lt-ltb (length (a .buffer)) (length (replyFor s (a .octets) (a .receive) (a .transmit) request)) h)
 
   -- which request it is
-  asks : (w : OwnLevel s a) (q : Sound s a) (reply : List ℕ) → said.Reply s a reply
+  asks : (w : OwnLevel s a) (q : Sound s a) (reply : List ℕ) → made.Reply s a reply
       → (request : Request) × ((ours s (call.frame a) ≡ decided s a (Replies request)) × (cutOff (fixedFor request) (a .octets) ≡ false) × (reply ≡ replyFor s (a .octets) (a .receive) (a .transmit) request))
   unfolding handleOf ruleOf choose
-  asks w q reply (said.lbr e) = (request.Loopback, (left s a w _ (handles s a w q Loopback (Codes.lbm (flagsOf (pdu a)) e)), there (w .oam) q 4 (ap (λ (x : ℕ). ruleOf x .least) e), refl))
-  asks w q reply (said.lmr e) = (request.Loss, (left s a w _ (handles s a w q LossRequest (Codes.lmm (flagsOf (pdu a)) e)), there (w .oam) q 12 (ap (λ (x : ℕ). ruleOf x .least) e), refl))
-  asks w q reply (said.dmr e) = (request.Delay, (left s a w _ (handles s a w q DelayRequest (Codes.dmm (flagsOf (pdu a)) e)), there (w .oam) q 32 (ap (λ (x : ℕ). ruleOf x .least) e), refl))
+  asks w q reply (made.lbr e) = (request.Loopback, (left s a w _ (handles s a w q Loopback (Codes.lbm (flagsOf (pdu a)) e)), there (w .oam) q 4 (ap (λ (x : ℕ). ruleOf x .least) e), refl))
+  asks w q reply (made.lmr e) = (request.Loss, (left s a w _ (handles s a w q LossRequest (Codes.lmm (flagsOf (pdu a)) e)), there (w .oam) q 12 (ap (λ (x : ℕ). ruleOf x .least) e), refl))
+  asks w q reply (made.dmr e) = (request.Delay, (left s a w _ (handles s a w q DelayRequest (Codes.dmm (flagsOf (pdu a)) e)), there (w .oam) q 32 (ap (λ (x : ℕ). ruleOf x .least) e), refl))
 
-  pub replies : (w : OwnLevel s a) (q : Sound s a) (reply : List ℕ) → said.Reply s a reply → length reply ≤ length (a .buffer)
+  pub replies : (w : OwnLevel s a) (q : Sound s a) (reply : List ℕ) → made.Reply s a reply → length reply ≤ length (a .buffer)
       → ours s (call.frame a) ≡ leaves (written (length reply)) s (laid 0 reply (a .buffer))
   replies w q reply r h = let x = asks w q reply r in
       rw (x .1 .2) (x .1 .0 ∙ answered (x .0) (x .1 .1) (rw (x .1 .2) at h))
 
-  pub frame-3 : (w : OwnLevel s a) (q : Sound s a) (reply : List ℕ) → said.Reply s a reply → length (a .buffer) < length reply
+  pub frame-3 : (w : OwnLevel s a) (q : Sound s a) (reply : List ℕ) → made.Reply s a reply → length (a .buffer) < length reply
       → ours s (call.frame a) ≡ leaves (refused 3) s (a .buffer)
   frame-3 w q reply r h = let x = asks w q reply r in
       x .1 .0 ∙ no-room (x .0) (x .1 .1) (rw (x .1 .2) at h)
 
   -- ── rule 7 ──
 
-  counts : (l : said.LossReply s a) → ours s (call.frame a) ≡ decided s a (Changes (readingIn (pdu a)))
+  counts : (l : taken.LossReply s a) → ours s (call.frame a) ≡ decided s a (Changes (readingIn (pdu a)))
   unfolding handleOf
   counts l = left s a (l .own) _ (handles s a (l .own) (l .sound) LossReply (Codes.lmr (flagsOf (pdu a)) (l .lmr)))
 
-  session-well : said.LossReply s a → Session.wellFormed (s .session) ≡ true
+  session-well : taken.LossReply s a → Session.wellFormed (s .session) ≡ true
   session-well l = Loss.sessions .well (s .session) .1 (l .own .oam .heeded .well .session)
 
-  pub first-reading : said.LossReply s a → s .session .kept ≡ 0
-      → ours s (call.frame a) ≡ leaves (call.loss (pos 0) (pos 0)) (withSession (said.keptFirst (s .session) (said.reading s a)) s) (a .buffer)
+  pub first-reading : taken.LossReply s a → s .session .kept ≡ 0
+      → ours s (call.frame a) ≡ leaves (call.loss (pos 0) (pos 0)) (withSession (made.keptFirst (s .session) (made.reading s a)) s) (a .buffer)
   unfolding carriedOut applied afterReading choose answerOf
   first-reading l k = counts l ∙ rw (session-well l, k)
 
-  pub later-reading : said.LossReply s a → s .session .kept ≡ 1 → s .session .intervals < 1000000000
+  pub later-reading : taken.LossReply s a → s .session .kept ≡ 1 → s .session .intervals < 1000000000
       → ours s (call.frame a)
-      ≡ leaves (call.loss (Session.lossOn Session.near (s .session .last) (said.reading s a)) (Session.lossOn Session.far (s .session .last) (said.reading s a))) (withSession (said.measured (s .session) (said.reading s a)) s) (a .buffer)
+      ≡ leaves (call.loss (lossOn Session.near (s .session .last) (made.reading s a)) (lossOn Session.far (s .session .last) (made.reading s a))) (withSession (made.measured (s .session) (made.reading s a)) s) (a .buffer)
   unfolding carriedOut applied afterReading choose answerOf
   later-reading l k n = counts l ∙ rw (session-well l, ne-eqb (s .session .kept) 0 (λ z. omega arith), ne-eqb (s .session .intervals) 1000000000 (λ z. omega arith))
 
-  pub full : said.LossReply s a → s .session .kept ≡ 1 → s .session .intervals ≡ 1000000000 → ours s (call.frame a) ≡ leaves (refused 5) s (a .buffer)
+  pub full : taken.LossReply s a → s .session .kept ≡ 1 → s .session .intervals ≡ 1000000000 → ours s (call.frame a) ≡ leaves (refused 5) s (a .buffer)
   unfolding carriedOut applied afterReading choose answerOf
   full l k n = counts l ∙ rw (session-well l, ne-eqb (s .session .kept) 0 (λ z. omega arith), eq-eqb (s .session .intervals) 1000000000 n)
 
   -- ── rule 8 ──
 
-  pub delay-left : (l : said.DelayReply s a) (x : DelayAnswer) → Stamps.measured a ≡ x → ours s (call.frame a) ≡ leaves (frameAnswer (delayAnswer x)) s (a .buffer)
+  pub delay-left : (l : taken.DelayReply s a) (x : DelayAnswer) → Stamps.measured a ≡ x → ours s (call.frame a) ≡ leaves (frameAnswer (delayAnswer x)) s (a .buffer)
   unfolding handleOf carriedOut
   delay-left l x e = left s a (l .own) _ (handles s a (l .own) (l .sound) DelayReply (Codes.dmr (flagsOf (pdu a)) (l .dmr)) ∙ ap Delays e)

@@ -10,21 +10,21 @@ use lib.ListN.{length, drop, length-drop}
 use Rattle.whole.proofs.Tests.{known as if-known}
 use Rattle.octets.specs.Numbers.{Octets}
 use Rattle.opcodes.specs.Opcodes.{ruleOf, known}
-use Rattle.frame.specs.declared.reader.Bad.the-variants.{Offset, CutOff}
+use Rattle.reasons.specs.declared.Bad.the-variants.{Offset, CutOff}
 use Rattle.tlvs.specs.declared.Place.{Place}
 use Rattle.tlvs.specs.declared.Place.the-variants as place
-use Rattle.frame.specs.declared.reader.TlvAnswer.{TlvAnswer}
-use Rattle.frame.specs.declared.reader.TlvAnswer.the-variants as tlv
+use Rattle.reasons.specs.declared.TlvAnswer.{TlvAnswer}
+use Rattle.reasons.specs.declared.TlvAnswer.the-variants as tlv
 use Rattle.frame.specs.Head.{etherTypeOf, pduOf, opcodeOf, offsetOf, flagsOf, startOf}
 use Rattle.tlvs.specs.Tlvs.{Tlvs, walkFrom}
-use Rattle.frame.specs.Reader.{isCut, answerOf}
-use Rattle.frame.specs.Told.{isFound}
-use Rattle.frame.proofs.Judged.{frame-oam, pdu-offset, pdu-tlvs}
-use Rattle.frame.proofs.Seeks.{seek-bad, seek-tlvs, whole-cut}
+use Rattle.reader.specs.Reader.{isCut, answerOf}
+use Rattle.reader.specs.Numbers.{isFound}
+use Rattle.judge.proofs.Judged.{frame-oam, pdu-offset, pdu-tlvs}
+use Rattle.reader.proofs.Seeks.{seek-bad, seek-tlvs, whole-cut}
 use Rattle.tlvs.proofs.Agrees.{walk-agrees}
-use Rattle.frame.proofs.Numbers.{not-found}
-use Rattle.incoming.specs.declared.MessageAnswer.{MessageAnswer}
-use Rattle.incoming.specs.declared.MessageAnswer.the-variants.{Bad}
+use Rattle.reader.proofs.Numbers.{not-found}
+use Rattle.kinds.specs.declared.MessageAnswer.{MessageAnswer}
+use Rattle.kinds.specs.declared.MessageAnswer.the-variants.{Bad}
 use Rattle.incoming.specs.Good.{Headed, isBad}
 use Rattle.incoming.specs.Message.{judgedOf, unlessBad, messageOf}
 use Rattle.incoming.proofs.Goods.{good-frames}

@@ -15,28 +15,32 @@ use Rattle.period.specs.Periods.{ticksOf}
 use Rattle.settings.specs.Settings.{Settings, slots}
 use Rattle.settings.specs.Valid.{Valid, valid}
 use Rattle.settings.proofs.Rules.{valid-is}
-use Rattle.loss.specs.Session.{clearedSession}
-use Rattle.delay.specs.declared.Stamp.{Stamp}
+use Rattle.session.specs.Session.{clearedSession}
+use Rattle.stamps.specs.declared.Stamp.{Stamp}
 use Rattle.state.specs.State.{State}
 use Rattle.state.specs.Changed.{put, withSession, lowered}
 use Rattle.state.specs.Changed as word
 use Rattle.state.specs.WellFormed.{WellFormed}
-use Rattle.conditions.specs.Standing as box
-use Rattle.conditions.specs.Standing.{standing}
-use Rattle.conditions.specs.Conditions.{flag, table, lostAt, shownOf, conditionsOf}
-use Rattle.conditions.proofs.Rules as Rules
+use Rattle.standing.specs.Standing as box
+use Rattle.standing.specs.Standing.{standing}
+use Rattle.standing.specs.Flag.{flag}
+use Rattle.conditions.specs.Conditions.{table, lostAt, shownOf, conditionsOf}
+use Rattle.standing.proofs.Rules as Rules
 use Rattle.conditions.proofs.Table.{table-length, table-at}
 use Rattle.ccm.specs.Ccm.{ccmOf}
 use Rattle.tick.specs.Tick.{tickOf}
 use Rattle.clear.specs.Clear.{clearOf}
-use Rattle.asked.specs.Lmm.{lmmOf, sendLmm}
-use Rattle.asked.specs.Dmm.{dmmOf, sendDmm}
+use Rattle.sendlmm.specs.Lmm.{lmmOf, sendLmm}
+use Rattle.senddmm.specs.Dmm.{dmmOf, sendDmm}
 use Rattle.demands.specs.Calls as call
 use Rattle.demands.specs.Calls.{leaves, refused, done, written, Raised}
-use Rattle.demands.specs.Cases.{StampGood, Fresh, AllZero, Flag, on, off, Lost, Stands}
-use Rattle.demands.specs.Cases as paper
-use Rattle.demands.specs.Said as said
-use Rattle.demands.specs.Ours.{raised, ours}
+use Rattle.demands.specs.Cases.{StampGood}
+use Rattle.demands.specs.Started.{Fresh, AllZero}
+use Rattle.demands.specs.Standing.{Flag, on, off, Lost, Stands}
+use Rattle.demands.specs.Standing as standing
+use Rattle.demands.specs.Made.{ccmFrom, lmmFrom, dmmFrom}
+use Rattle.demands.specs.Words.{raised}
+use Rattle.demands.specs.Ours.{ours}
 use Rattle.demands.proofs.Stamps.{untrue, good-yes, good-no}
 use Rattle.demands.proofs.Meets.{well, not-well}
 use Rattle.demands.proofs.Started.{alike, fresh-is, zero-is}
@@ -45,22 +49,22 @@ use Rattle.demands.proofs.Started.{alike, fresh-is, zero-is}
 
 -- what stands by the paper is what stands by the box, and the ticks to the next CCM are no part of it
 pub stands-to : (s : State) → Stands s → box.Stands s
-stands-to s (paper.lost k h l) = box.lost k (l .used) h (l .ended)
-stands-to s (paper.mismerge h) = box.mismerge h
-stands-to s (paper.unexpected-mep h) = box.unexpected-mep h
-stands-to s (paper.unexpected-period h) = box.unexpected-period h
-stands-to s (paper.unexpected-level h) = box.unexpected-level h
-stands-to s (paper.ais h) = box.ais h
-stands-to s (paper.lck h) = box.lck h
+stands-to s (standing.lost k h l) = box.lost k (l .used) h (l .ended)
+stands-to s (standing.mismerge h) = box.mismerge h
+stands-to s (standing.unexpected-mep h) = box.unexpected-mep h
+stands-to s (standing.unexpected-period h) = box.unexpected-period h
+stands-to s (standing.unexpected-level h) = box.unexpected-level h
+stands-to s (standing.ais h) = box.ais h
+stands-to s (standing.lck h) = box.lck h
 
 pub stands-from : (s : State) → box.Stands s → Stands s
-stands-from s (box.lost k u h e) = paper.lost k h (record { used = u; ended = e })
-stands-from s (box.mismerge h) = paper.mismerge h
-stands-from s (box.unexpected-mep h) = paper.unexpected-mep h
-stands-from s (box.unexpected-period h) = paper.unexpected-period h
-stands-from s (box.unexpected-level h) = paper.unexpected-level h
-stands-from s (box.ais h) = paper.ais h
-stands-from s (box.lck h) = paper.lck h
+stands-from s (box.lost k u h e) = standing.lost k h (record { used = u; ended = e })
+stands-from s (box.mismerge h) = standing.mismerge h
+stands-from s (box.unexpected-mep h) = standing.unexpected-mep h
+stands-from s (box.unexpected-period h) = standing.unexpected-period h
+stands-from s (box.unexpected-level h) = standing.unexpected-level h
+stands-from s (box.ais h) = standing.ais h
+stands-from s (box.lck h) = standing.lck h
 
 next-apart : (s : State) (v : ℕ) → standing (put word.next v s) ≡ standing s
 unfolding standing
@@ -94,12 +98,12 @@ module _ (s : State) (b : List ℕ) where
   unfolding tickOf choose
   last-tick w e h = rw (well s w, le-ltb 1 (s .next) (omega arith), le-ltb (length b) 89 h)
 
-  ccm-is : (v rdi : ℕ) → Flag (Stands (lowered s)) rdi → ccmOf (put word.next v (lowered s)) ≡ said.ccmFrom s rdi
+  ccm-is : (v rdi : ℕ) → Flag (Stands (lowered s)) rdi → ccmOf (put word.next v (lowered s)) ≡ ccmFrom s rdi
   unfolding ccmOf
-  ccm-is v rdi f = ap (said.ccmFrom s) (rdi-is (lowered s) v rdi f)
+  ccm-is v rdi f = ap (ccmFrom s) (rdi-is (lowered s) v rdi f)
 
   pub tick-sends : (rdi : ℕ) → WellFormed s → s .next ≡ 1 → 89 ≤ length b → Flag (Stands (lowered s)) rdi
-      → ours s (call.tick b) ≡ leaves (written 89) (put word.next (ticksOf (s .settings .period)) (lowered s)) (laid 0 (said.ccmFrom s rdi) b)
+      → ours s (call.tick b) ≡ leaves (written 89) (put word.next (ticksOf (s .settings .period)) (lowered s)) (laid 0 (ccmFrom s rdi) b)
   tick-sends rdi w e h f =
       last-tick w e h
       ∙ ap (λ (m : List ℕ). leaves (written 89) (put word.next (ticksOf (s .settings .period)) (lowered s)) (laid 0 m b)) (ccm-is (ticksOf (s .settings .period)) rdi f)
@@ -114,7 +118,7 @@ module _ (s : State) (b : List ℕ) where
   unfolding sendLmm choose
   lmm-3 w h = rw (well s w, lt-ltb (length b) 31 h)
 
-  pub lmm-sends : WellFormed s → 31 ≤ length b → ours s (call.send-LMM b) ≡ leaves (written 31) s (laid 0 (said.lmmFrom s) b)
+  pub lmm-sends : WellFormed s → 31 ≤ length b → ours s (call.send-LMM b) ≡ leaves (written 31) s (laid 0 (lmmFrom s) b)
   unfolding sendLmm choose lmmOf
   lmm-sends w h = rw (well s w, le-ltb (length b) 31 h)
 
@@ -131,7 +135,7 @@ module _ (s : State) (b : List ℕ) where
     unfolding sendDmm choose
     dmm-3 w g h = rw (well s w, good-yes t g, lt-ltb (length b) 51 h)
 
-    pub dmm-sends : WellFormed s → StampGood t → 51 ≤ length b → ours s (call.send-DMM t b) ≡ leaves (written 51) s (laid 0 (said.dmmFrom s t) b)
+    pub dmm-sends : WellFormed s → StampGood t → 51 ≤ length b → ours s (call.send-DMM t b) ≡ leaves (written 51) s (laid 0 (dmmFrom s t) b)
     unfolding sendDmm choose dmmOf
     dmm-sends w g h = rw (well s w, good-yes t g, le-ltb (length b) 51 h)
 
@@ -170,7 +174,7 @@ lost-flag s k v f =
     f
 
 module _ (s : State) where
-  shown : (r : Raised) → said.Shows s r → raised (shownOf s) ≡ r
+  shown : (r : Raised) → standing.Shows s r → raised (shownOf s) ≡ r
   shown r h =
       let f = lostAt (s .settings .count) (s .timers) in
       made r
@@ -191,7 +195,7 @@ module _ (s : State) where
   unfolding conditionsOf
   conditions-all w = rw (well s w)
 
-  pub conditions-show : (r : Raised) → WellFormed s → said.Shows s r → ours s call.conditions ≡ leaves (call.standing r) s []
+  pub conditions-show : (r : Raised) → WellFormed s → standing.Shows s r → ours s call.conditions ≡ leaves (call.standing r) s []
   conditions-show r w h = conditions-all w ∙ ap (λ (x : Raised). leaves (call.standing x) s []) (shown r h)
 
   -- what the box shows is what the paper does
@@ -208,7 +212,7 @@ module _ (s : State) where
       (λ e. let p = split (ltb k (s .settings .count)) (eqb (getD (s .timers) k 0) 0) e in record { used = ltb-true k (s .settings .count) (p .0); ended = eqb-true (getD (s .timers) k 0) 0 (p .1) })
       (λ l. join (ltb k (s .settings .count)) (eqb (getD (s .timers) k 0) 0) (lt-ltb k (s .settings .count) (l .used)) (eq-eqb (getD (s .timers) k 0) 0 (l .ended)))
 
-  pub shows-own : said.Shows s (raised (shownOf s))
+  pub shows-own : standing.Shows s (raised (shownOf s))
   shows-own =
       let f = lostAt (s .settings .count) (s .timers) in
       record {

@@ -14,11 +14,11 @@ use Rattle.whole.specs.Lists.{absent, placeOf, same}
 use Rattle.whole.proofs.Lists.{same-is, absent-is, place-holds, place-first, place-absent}
 use Rattle.whole.proofs.Tests.{known as if-known}
 use Rattle.settings.specs.Valid.{Valid}
-use Rattle.fields.specs.Fixed.{ccmIn, megIn}
+use Rattle.ccmfields.specs.Ccm.{ccmIn, megIn}
 use Rattle.state.specs.State.{State}
 use Rattle.signals.specs.declared.Signal.the-variants.{Mismerge, UnexpectedMep, Heard, UnexpectedPeriod}
 use Rattle.peers.specs.Peers.{usedPeers, slotOf, ccmSignal}
-use Rattle.demands.specs.Cases.{PeerAt}
+use Rattle.demands.specs.Taken.{PeerAt}
 
 unequal : (l m : List ℕ) → (l ≡ m → ⊥) → same l m ≡ false
 unequal l m n =

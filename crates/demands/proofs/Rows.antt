@@ -11,7 +11,8 @@ use Rattle.whole.specs.Lists.{every, absent}
 use Rattle.whole.proofs.Tests.{known as if-known}
 use Rattle.opcodes.specs.Opcodes.{ruleOf, known, handled}
 use Rattle.opcodes.proofs.Rules.{opcode-lists}
-use Rattle.demands.specs.Cases.{OneOf, here, there, Handled, ccm, lbm, ais, lck, lmr, lmm, dmr, dmm}
+use Rattle.demands.specs.Cases.{OneOf, here, there}
+use Rattle.demands.specs.Drops.{Handled, ccm, lbm, ais, lck, lmr, lmm, dmr, dmm}
 
 both : (a b : Bool) → b ≡ false → (a && b) ≡ false
 both true b e = e

@@ -15,7 +15,8 @@ use Rattle.state.specs.State.{State}
 use Rattle.ours.specs.Ours.{hasGroupBit, goodDestination, goodSource, forUs}
 use Rattle.decide.specs.Decide.{isOurs}
 use Rattle.demands.specs.Calls.{Arrival}
-use Rattle.demands.specs.Cases.{opcode, level, GoodDestination, own, group, D6, destination, group-source, stranger}
+use Rattle.demands.specs.Cases.{opcode, level}
+use Rattle.demands.specs.Drops.{GoodDestination, own, group, D6, destination, group-source, stranger}
 use Rattle.demands.proofs.Rows.{multicast-yes, multicast-only, request-yes, request-only}
 
 -- a test that is not true is false

@@ -10,13 +10,15 @@ use borrow.Author.Tests.{leb-true, le-leb, lt-ltb, ltb-true, eqb-true, eq-eqb, n
 use Rattle.whole.specs.Tests.{choose}
 use Rattle.whole.specs.Lists.{every}
 use Rattle.whole.proofs.Tests.{known as if-known, split, join}
-use Rattle.delay.specs.declared.Stamp.{Stamp}
+use Rattle.stamps.specs.declared.Stamp.{Stamp}
 use Rattle.delay.specs.declared.DelayAnswer.{DelayAnswer}
 use Rattle.delay.specs.declared.DelayAnswer.the-variants.{BadStamp, TooLarge, TwoWay, AllWays}
-use Rattle.delay.specs.Stamps.{good, given, paired, usable, between}
+use Rattle.stamps.specs.Stamps.{good, given}
+use Rattle.delay.specs.Used.{paired, usable, between}
 use Rattle.delay.specs.Delays.{formed, held, delaysOf}
 use Rattle.demands.specs.Calls.{Arrival}
-use Rattle.demands.specs.Cases.{StampGood, NotGiven, txf, rxf, txb, Paired, BadDelay, bad-txf, bad-rxf, bad-txb, no-receipt, Held}
+use Rattle.demands.specs.Cases.{StampGood}
+use Rattle.demands.specs.Taken.{NotGiven, txf, rxf, txb, Paired, BadDelay, bad-txf, bad-rxf, bad-txb, no-receipt, Held}
 
 -- a test that is not true is false
 pub untrue : (b : Bool) → (b ≡ true → ⊥) → b ≡ false

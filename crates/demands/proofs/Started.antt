@@ -13,10 +13,10 @@ use Rattle.whole.proofs.Loops.{changes}
 use Rattle.whole.proofs.Tests.{known}
 use Rattle.period.specs.Periods.{holdOf}
 use Rattle.settings.specs.Settings.{Settings, slots}
-use Rattle.loss.specs.declared.LossSession.{LossSession}
+use Rattle.session.specs.declared.LossSession.{LossSession}
 use Rattle.state.specs.State.{State}
 use Rattle.start.specs.Start.{startOf, zeroState}
-use Rattle.demands.specs.Cases.{Fresh, NoSettings, AllZero}
+use Rattle.demands.specs.Started.{Fresh, NoSettings, AllZero}
 
 -- two lists of one length that hold the same at each place
 pub alike : (l m : List ℕ) (n : ℕ) → length l ≡ n → length m ≡ n → ((i : ℕ) → i < n → getD l i 0 ≡ getD m i 0) → l ≡ m

@@ -4,8 +4,8 @@ use mathlib.Core.Path.{_≡_, refl, sym, ap, ap₂, _∙_}
 use mathlib.Core.List.{List, []}
 use denote.Ref.{now}
 use Rattle.settings.specs.Settings.{settingsOf}
-use Rattle.delay.specs.declared.Stamp.{Stamp}
-use Rattle.delay.specs.Stamps.{Wire}
+use Rattle.stamps.specs.declared.Stamp.{Stamp}
+use Rattle.stamps.specs.Stamps.{Wire}
 use Rattle.state.specs.State.{State, lying}
 use Rattle.class.specs.declared.Side.{Side}
 use Rattle.class.specs.declared.Side.the-variants as side
@@ -15,14 +15,15 @@ use Rattle.receive.specs.Frame.{frameOf}
 use Rattle.receive.proofs.on_frame.Reads as on-frame
 use Rattle.tick.proofs.tick.Reads as tick
 use Rattle.clear.proofs.clear.Reads as clear
-use Rattle.asked.proofs.send_lmm.Reads as send-lmm
-use Rattle.asked.proofs.send_dmm.Reads as send-dmm
+use Rattle.sendlmm.proofs.send_lmm.Reads as send-lmm
+use Rattle.senddmm.proofs.send_dmm.Reads as send-dmm
 use Rattle.conditions.specs.declared.ConditionsTold.{ConditionsTold}
 use Rattle.conditions.proofs.conditions.Reads as conditions
 use Rattle.demands.specs.Calls as call
 use Rattle.demands.specs.Calls.{Arrival, Outcome, leaves, FromWire}
 use Rattle.demands.specs.Said.{Said}
-use Rattle.demands.specs.Ours.{sideOf, settingAnswer, frameAnswer, clearAnswer, tickAnswer, lmmAnswer, dmmAnswer, conditionsAnswer, afterFrame, afterTick, afterClear, afterLmm, afterDmm}
+use Rattle.demands.specs.Words.{sideOf, settingAnswer, frameAnswer, clearAnswer, tickAnswer, lmmAnswer, dmmAnswer, conditionsAnswer}
+use Rattle.demands.specs.Ours.{afterFrame, afterTick, afterClear, afterLmm, afterDmm}
 use Rattle.demands.proofs.Follows.{ours-follows}
 
 -- the side of a call, from the function's

@@ -9,16 +9,14 @@ use Rattle.answers.specs.Told as Frame
 use Rattle.clear.specs.declared.ClearAnswer.{ClearAnswer}
 use Rattle.clear.specs.declared.ClearAnswer.the-variants as cleared
 use Rattle.clear.specs.Clear as Clear
-use Rattle.tick.specs.declared.TickAnswer.{TickAnswer}
-use Rattle.tick.specs.declared.TickAnswer.the-variants as ticked
-use Rattle.tick.specs.Tick as Tick
-use Rattle.asked.specs.declared.LmmAnswer.{LmmAnswer}
-use Rattle.asked.specs.declared.LmmAnswer.the-variants as lmm
-use Rattle.asked.specs.Lmm.{lmmTold}
-use Rattle.asked.specs.declared.DmmAnswer.{DmmAnswer}
-use Rattle.asked.specs.declared.DmmAnswer.the-variants as dmm
-use Rattle.asked.specs.Dmm.{dmmTold}
-use Rattle.demands.specs.Ours.{settingAnswer, frameAnswer, clearAnswer, tickAnswer, lmmAnswer, dmmAnswer}
+use Rattle.sends.specs.declared.TickAnswer.{TickAnswer}
+use Rattle.sends.specs.declared.TickAnswer.the-variants as ticked
+use Rattle.sends.specs.Told.{tickTold, lmmTold, dmmTold}
+use Rattle.sends.specs.declared.LmmAnswer.{LmmAnswer}
+use Rattle.sends.specs.declared.LmmAnswer.the-variants as lmm
+use Rattle.sends.specs.declared.DmmAnswer.{DmmAnswer}
+use Rattle.sends.specs.declared.DmmAnswer.the-variants as dmm
+use Rattle.demands.specs.Words.{settingAnswer, frameAnswer, clearAnswer, tickAnswer, lmmAnswer, dmmAnswer}
 use Rattle.demands.specs.Told.{counted, numbersOf, frameNumbers, ToldAlike}
 
 of-setting : (r : SettingAnswer) → counted (Start.told r .refusal) 0 0 ≡ numbersOf (settingAnswer r)
@@ -42,8 +40,8 @@ of-frame (answer.Measured near far) = refl
 of-frame (answer.TwoWay twoway) = refl
 of-frame (answer.AllWays twoway far near) = refl
 
-of-tick : (r : TickAnswer) → counted (Tick.told r .refusal) 0 (Tick.told r .length) ≡ numbersOf (tickAnswer r)
-unfolding Tick.told
+of-tick : (r : TickAnswer) → counted (tickTold r .refusal) 0 (tickTold r .length) ≡ numbersOf (tickAnswer r)
+unfolding tickTold
 of-tick ticked.NotWellFormed = refl
 of-tick ticked.NoRoom = refl
 of-tick ticked.Quiet = refl

@@ -4,9 +4,9 @@ use mathlib.Core.List.{List}
 use lib.IntN.{ℤ}
 use Rattle.octets.specs.Numbers.{Octets}
 use Rattle.settings.specs.Settings.{Settings}
-use Rattle.delay.specs.declared.Stamp.{Stamp}
-use Rattle.delay.specs.Stamps.{Wire}
 use Rattle.state.specs.State.{State}
+use Rattle.stamps.specs.Stamps.{Wire}
+use Rattle.stamps.specs.declared.Stamp.{Stamp}
 
 -- where a frame comes from: active is the fibre, passive the equipment behind the box
 pub data Side : Type 0 where

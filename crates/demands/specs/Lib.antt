@@ -1,6 +1,14 @@
 pub mod Calls
 pub mod Cases
+pub mod Drops
+pub mod Taken
+pub mod Started
+pub mod Standing
+pub mod Made
+pub mod Judged
+pub mod Handling
+pub mod Called
 pub mod Said
+pub mod Words
 pub mod Ours
-pub mod Promised
 pub mod Told

@@ -3,20 +3,18 @@
 use Prim.Native.Nat.{ℕ}
 use mathlib.Core.Path.{_≡_}
 use lib.IntN.{ℤ, pos}
-use Rattle.start.specs.declared.SettingAnswer.{SettingAnswer}
 use Rattle.start.specs.Start as Start
-use Rattle.answers.specs.declared.FrameAnswer.{FrameAnswer}
-use Rattle.answers.specs.Told as Frame
-use Rattle.clear.specs.declared.ClearAnswer.{ClearAnswer}
+use Rattle.start.specs.declared.SettingAnswer.{SettingAnswer}
 use Rattle.clear.specs.Clear as Clear
-use Rattle.tick.specs.declared.TickAnswer.{TickAnswer}
-use Rattle.tick.specs.Tick as Tick
-use Rattle.asked.specs.declared.LmmAnswer.{LmmAnswer}
-use Rattle.asked.specs.Lmm.{lmmTold}
-use Rattle.asked.specs.declared.DmmAnswer.{DmmAnswer}
-use Rattle.asked.specs.Dmm.{dmmTold}
+use Rattle.clear.specs.declared.ClearAnswer.{ClearAnswer}
+use Rattle.sends.specs.Told.{tickTold, lmmTold, dmmTold}
+use Rattle.sends.specs.declared.DmmAnswer.{DmmAnswer}
+use Rattle.sends.specs.declared.LmmAnswer.{LmmAnswer}
+use Rattle.sends.specs.declared.TickAnswer.{TickAnswer}
+use Rattle.answers.specs.Told as Frame
+use Rattle.answers.specs.declared.FrameAnswer.{FrameAnswer}
 use Rattle.demands.specs.Calls.{Answer, refused, dropped, passed, taken, written, loss, delay, delays, done, standing}
-use Rattle.demands.specs.Ours.{settingAnswer, frameAnswer, clearAnswer, tickAnswer, lmmAnswer, dmmAnswer}
+use Rattle.demands.specs.Words.{settingAnswer, frameAnswer, clearAnswer, tickAnswer, lmmAnswer, dmmAnswer}
 
 -- refusal, drop, length of what was written, near and far loss, two-way delay, one-way far and near; what an answer does not have is 0
 pub record Numbers : Type 0 where
@@ -60,7 +58,7 @@ frameNumbers r = record {
 pub record ToldAlike : Type 0 where
   pub setting : (r : SettingAnswer) → counted (Start.told r .refusal) 0 0 ≡ numbersOf (settingAnswer r)
   pub frame : (r : FrameAnswer) → frameNumbers r ≡ numbersOf (frameAnswer r)
-  pub tick : (r : TickAnswer) → counted (Tick.told r .refusal) 0 (Tick.told r .length) ≡ numbersOf (tickAnswer r)
+  pub tick : (r : TickAnswer) → counted (tickTold r .refusal) 0 (tickTold r .length) ≡ numbersOf (tickAnswer r)
   pub clear : (r : ClearAnswer) → counted (Clear.told r .refusal) 0 0 ≡ numbersOf (clearAnswer r)
   pub lmm : (r : LmmAnswer) → counted (lmmTold r .refusal) 0 (lmmTold r .length) ≡ numbersOf (lmmAnswer r)
   pub dmm : (r : DmmAnswer) → counted (dmmTold r .refusal) 0 (dmmTold r .length) ≡ numbersOf (dmmAnswer r)

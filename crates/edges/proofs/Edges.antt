@@ -4,8 +4,9 @@ use mathlib.Core.Path.{_≡_, refl}
 use native.Mathlib.Omega.{arith}
 use Rattle.whole.specs.Tests.{choose}
 use Rattle.whole.specs.Lists.{every}
-use Rattle.loss.specs.Growth.{growth}
-use Rattle.loss.specs.Session.{readings, wellFormed, afterReading}
+use Rattle.growth.specs.Growth.{growth}
+use Rattle.session.specs.Session.{readings, wellFormed}
+use Rattle.loss.specs.Reading.{afterReading}
 use Rattle.loss.specs.Told.{told}
 use Rattle.account.specs.Demand3.{answers}
 use Rattle.delay.specs.Told.{numbersOf}

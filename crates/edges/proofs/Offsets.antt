@@ -15,18 +15,19 @@ use Rattle.whole.proofs.Lists.{part-behind}
 use Rattle.bits.specs.Fields.{firstOctet, mepId}
 use Rattle.octets.specs.Numbers.{number, bigEndian}
 use Rattle.opcodes.specs.Opcodes.{ruleOf}
-use Rattle.frame.specs.declared.reader.TlvTold.{TlvTold}
+use Rattle.reasons.specs.declared.TlvTold.{TlvTold}
 use Rattle.frame.specs.Head.{etherTypeOf, pduOf, opcodeOf, flagsOf, offsetOf}
-use Rattle.frame.specs.Reader.{answerOf}
-use Rattle.frame.specs.Told as Reader
-use Rattle.frame.proofs.Numbers.{agree}
+use Rattle.reader.specs.Reader.{answerOf}
+use Rattle.reader.specs.Numbers as Reader
+use Rattle.reasons.specs.Told as Reasons
+use Rattle.reader.proofs.Numbers.{agree}
 use Rattle.incoming.specs.Good.{Headed, tlvsOf}
 use Rattle.incoming.specs.Message.{judgedOf, unlessBad, messageOf}
 use Rattle.incoming.specs.Told.{behind, goodOpcode}
 use Rattle.incoming.proofs.Goods.{good-frames}
 use Rattle.incoming.proofs.Shape.{framed, pdu-is, ether-is, framed-long, headed}
-use Rattle.fields.specs.declared.CcmFields.{CcmFields}
-use Rattle.fields.specs.Fixed.{ccmIn, noCcm, ccmOf, megIn, megOf}
+use Rattle.ccmfields.specs.declared.CcmFields.{CcmFields}
+use Rattle.ccmfields.specs.Ccm.{ccmIn, noCcm, ccmOf, megIn, megOf}
 use Rattle.edges.specs.Table.{fourMore, oneLess}
 
 -- a CCM's fields from its flags and its fixed part alone
@@ -72,7 +73,7 @@ module _ (f g : List ℕ) (answered : answerOf f 0 ≡ answerOf g 0) (op : opcod
 
   opcode : goodOpcode f ≡ goodOpcode g
   opcode =
-      let numbers : Reader.numbersOf f 0 ≡ Reader.numbersOf g 0 = sym (agree f 0) ∙ ap Reader.told answered ∙ agree g 0 in
+      let numbers : Reader.numbersOf f 0 ≡ Reader.numbersOf g 0 = sym (agree f 0) ∙ ap Reasons.told answered ∙ agree g 0 in
       ap (λ (t : TlvTold). behind t (opcodeOf (pduOf f)) (flagsOf (pduOf f)) .opcode) numbers
       ∙ ap₂ (λ (o b : ℕ). behind (Reader.numbersOf g 0) o b .opcode) op flags
 

@@ -15,7 +15,8 @@ use Rattle.state.specs.State.{State}
 use Rattle.state.specs.WellFormed.{WellFormed}
 use Rattle.start.specs.Start.{startOf}
 use Rattle.start.proofs.Starts.{starts}
-use Rattle.conditions.specs.Conditions.{flag, lostAt, conditionsOf}
+use Rattle.standing.specs.Flag.{flag}
+use Rattle.conditions.specs.Conditions.{lostAt, conditionsOf}
 use Rattle.conditions.proofs.Table.{table-at}
 use Rattle.conditions.proofs.Show.{conditions-show}
 use Rattle.tick.specs.Tick.{tickOf}

@@ -15,20 +15,22 @@ use Rattle.conditions.specs.Conditions.{conditionsOf}
 use Rattle.tick.specs.Tick.{tickOf}
 use Rattle.bits.specs.Fields.{firstOctet, mepId}
 use Rattle.octets.specs.Numbers.{number, bigEndian}
-use Rattle.loss.specs.declared.Readings.{Readings}
-use Rattle.loss.specs.Growth.{growth}
-use Rattle.loss.specs.Session.{readings, clearedSession, afterReading}
+use Rattle.session.specs.declared.Readings.{Readings}
+use Rattle.growth.specs.Growth.{growth}
+use Rattle.session.specs.Session.{readings, clearedSession}
+use Rattle.loss.specs.Reading.{afterReading}
 use Rattle.loss.specs.Told.{told}
 use Rattle.loss.specs.Told as Loss
 use Rattle.account.specs.Demand3.{answers}
-use Rattle.delay.specs.declared.Stamp.{Stamp}
-use Rattle.delay.specs.Stamps.{notGiven}
+use Rattle.stamps.specs.declared.Stamp.{Stamp}
+use Rattle.stamps.specs.Stamps.{notGiven}
 use Rattle.delay.specs.Told as Delay
 use Rattle.frame.specs.Head.{levelOf, versionOf}
-use Rattle.frame.specs.Reader.{answerOf, valueOf}
-use Rattle.frame.specs.Told as Reader
+use Rattle.reader.specs.Reader.{answerOf, valueOf}
+use Rattle.reader.specs.Numbers as Reader
+use Rattle.reasons.specs.Told as Reasons
 use Rattle.incoming.specs.Message.{messageOf}
-use Rattle.fields.specs.Fixed.{isCcm, ccmOf, megOf}
+use Rattle.ccmfields.specs.Ccm.{isCcm, ccmOf, megOf}
 
 -- ── the words of the rows ──
 
@@ -94,7 +96,7 @@ fourMore = (addresses fixed extra tlvs : List ℕ) (level first flags : ℕ) →
 -- one with offset 69 is D4, whatever else it holds
 abbrev pub oneLess : Type 0
 oneLess = (addresses behind : List ℕ) (first flags kind : ℕ) → length addresses ≡ 12 → length behind ≤ 1496
-    → Reader.numbersOf (ccmFrame addresses first flags 69 behind) kind ≡ Reader.numbers 0 4 0
+    → Reader.numbersOf (ccmFrame addresses first flags 69 behind) kind ≡ Reasons.numbers 0 4 0
 
 -- ── the table; `negsuc n` is -(n + 1) ──
 

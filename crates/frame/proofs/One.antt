@@ -3,18 +3,6 @@
 use mathlib.Core.Path.{_≡_, sym, _∙_}
 use denote.Ref.{now, ptr}
 use Rattle.frame.proofs.head.pdu_of.Reads as pdu-of
-use Rattle.frame.proofs.reader.tlv_value.Reads as tlv-value
-use Rattle.frame.proofs.reader.tlv_answer.Reads as tlv-answer
-use Rattle.frame.proofs.reader.tell.Reads as tell
 
 pub pdu-of-one : (κs : _) (a : _) (r r′ : _) (s s′ : _) → pdu-of.Post κs a r s → pdu-of.Post κs a r′ s′ → (now r ≡ now r′) × (ptr r ≡ ptr r′)
 pdu-of-one κs a r r′ s s′ p q = (p .0 ∙ sym (q .0), p .1 ∙ sym (q .1))
-
-pub tlv-value-one : (κs : _) (a : _) (r r′ : _) (s s′ : _) → tlv-value.Post κs a r s → tlv-value.Post κs a r′ s′ → (now r ≡ now r′) × (ptr r ≡ ptr r′)
-tlv-value-one κs a r r′ s s′ p q = (p .0 ∙ sym (q .0), p .1 ∙ sym (q .1))
-
-pub tlv-answer-one : (κs : _) (a : _) (r r′ : _) (s s′ : _) → tlv-answer.Post κs a r s → tlv-answer.Post κs a r′ s′ → r ≡ r′
-tlv-answer-one κs a r r′ s s′ p q = p .0 ∙ sym (q .0)
-
-pub tell-one : (κs : _) (a : _) (r r′ : _) (s s′ : _) → tell.Post κs a r s → tell.Post κs a r′ s′ → r ≡ r′
-tell-one κs a r r′ s s′ p q = p ∙ sym q

@@ -63,3 +63,7 @@ offsetOf p = getD p 3 0
 -- TLVs stand from 4 + the frame's own offset on, wherever the opcode's usual ones do
 abbrev pub startOf : List ℕ → ℕ
 startOf p = 4 + offsetOf p
+
+-- a number of four octets at a place of the PDU
+abbrev pub word : ℕ → List ℕ → ℕ
+word at p = number bigEndian (part at 4 p)

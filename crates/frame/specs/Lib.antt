@@ -1,4 +1,1 @@
 pub mod Head
-pub mod Reader
-pub mod Told
-pub mod Alike

@@ -1,22 +1,22 @@
 // Prints what frames read as. Standard input has a frame a line, in hex: the TLV type that is asked for, then the frame's octets; blanks are
 // passed over, and `#` begins a comment. Each line prints its message with the fields, or the refusal or drop, and behind a bar what the
 // reader says of the TLV.
-use delay::Stamp;
+use ccmfields::ccm_fields;
+use ccmfields::meg_id;
 use fields::alarm_period;
-use fields::ccm_fields;
-use fields::delay_fields;
-use fields::loss_fields;
-use fields::meg_id;
 use fields::transaction;
-use frame::reader::tell as tell_tlv;
-use frame::reader::tlv_answer;
-use frame::reader::tlv_value;
 use header::level;
 use header::version;
 use incoming::message_answer;
-use incoming::tell as tell_message;
+use kinds::tell as tell_message;
 use libc::STDIN_FILENO;
 use libc::STDOUT_FILENO;
+use measures::delay_fields;
+use measures::loss_fields;
+use reader::tlv_answer;
+use reader::tlv_value;
+use reasons::tell as tell_tlv;
+use stamps::Stamp;
 
 // A word, and the number behind it.
 fn print_number(word: &[u8], n: u32) {

@@ -1,32 +1,9 @@
-// What stands before a PDU's fixed part: the two addresses, and the level and version in the first octet. Each answers for any octets.
+// Level and version, in the first octet of a PDU. Each answers for any octets.
 ghost use mathlib.Core.Path.{_≡_};
-ghost use denote.Ref.{ptr};
-ghost use Rattle.frame.specs.Head.{destinationOf, sourceOf, pduOf, placeOrStart, levelOf, versionOf};
-ghost use Rattle.header.specs.Addresses.{inHead};
+ghost use Rattle.frame.specs.Head.{pduOf, levelOf, versionOf};
 use bits::level_of;
 use bits::version_of;
-use frame::head::HEAD_LENGTH;
 use frame::head::pdu_of;
-
-// The destination, as that part of the frame; empty, at the frame's start, where the frame is shorter than its head.
-pub fn destination(frame: &[u8]) -> &[u8]
-    ensures { λ r. ⌜ (now r ≡ inHead (destinationOf (now (frame .entry))) (now (frame .entry))) × (ptr r ≡ placeOrStart 0 (ptr (frame .entry)) (now (frame .entry))) ⌝ }
-{
-    if frame.len() < HEAD_LENGTH {
-        return &frame[..0];
-    }
-    &frame[0..6]
-}
-
-// The source, in the same way.
-pub fn source(frame: &[u8]) -> &[u8]
-    ensures { λ r. ⌜ (now r ≡ inHead (sourceOf (now (frame .entry))) (now (frame .entry))) × (ptr r ≡ placeOrStart 6 (ptr (frame .entry)) (now (frame .entry))) ⌝ }
-{
-    if frame.len() < HEAD_LENGTH {
-        return &frame[..0];
-    }
-    &frame[6..12]
-}
 
 // The level; 0 where there is no PDU.
 pub fn level(frame: &[u8]) -> u32

@@ -15,15 +15,15 @@ use Rattle.whole.specs.Lists.{part}
 use Rattle.whole.proofs.Lists.{part-drop}
 use Rattle.whole.proofs.Tests.{known as if-known, both-true}
 use Rattle.opcodes.specs.Opcodes.{ruleOf, known}
-use Rattle.frame.specs.declared.reader.Bad.{Bad}
+use Rattle.reasons.specs.declared.Bad.{Bad}
 use Rattle.tlvs.specs.declared.Place.{Place}
 use Rattle.tlvs.specs.declared.Place.the-variants.{End, Found, Cut}
-use Rattle.frame.specs.declared.reader.Seek.{Seek}
-use Rattle.frame.specs.declared.reader.TlvAnswer.{TlvAnswer}
+use Rattle.reader.specs.declared.Seek.{Seek}
+use Rattle.reasons.specs.declared.TlvAnswer.{TlvAnswer}
 use Rattle.frame.specs.Head.{etherTypeOf, isOam, lengthGood, headLength, pduOf, opcodeOf, offsetOf, startOf}
 use Rattle.tlvs.specs.Tlvs.{lengthOf, walk, walkFrom}
-use Rattle.frame.specs.Reader.{isCut, wanted, whole, inFrame, answerAt, answerOf, partOf, valueOf}
-use Rattle.frame.proofs.Chain.{chained, through}
+use Rattle.reader.specs.Reader.{isCut, wanted, whole, inFrame, answerAt, answerOf, partOf, valueOf}
+use Rattle.reader.proofs.Chain.{chained, through}
 use Rattle.tlvs.proofs.Steps.{past}
 use Rattle.incoming.specs.Good.{Headed, Good, isBad, tlvsOf, GoodFrames}
 

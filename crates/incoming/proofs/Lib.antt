@@ -1,4 +1,5 @@
 pub mod Goods
 pub mod Numbers
 pub mod Shape
+pub mod There
 pub mod One

@@ -13,20 +13,21 @@ use Rattle.whole.proofs.Lists.{below-is}
 use Rattle.whole.proofs.Tests.{known as if-known}
 use Rattle.opcodes.specs.Opcodes.{rule, ruleOf, known}
 use Rattle.opcodes.proofs.Rules.{rule-none}
-use Rattle.frame.specs.declared.reader.Bad.the-variants.{Length, Short, Opcode, Offset, CutOff}
-use Rattle.frame.specs.declared.reader.TlvAnswer.{TlvAnswer}
-use Rattle.frame.specs.declared.reader.TlvAnswer.the-variants as tlv
-use Rattle.frame.specs.declared.reader.TlvTold.{TlvTold}
+use Rattle.reasons.specs.declared.Bad.the-variants.{Length, Short, Opcode, Offset, CutOff}
+use Rattle.reasons.specs.declared.TlvAnswer.{TlvAnswer}
+use Rattle.reasons.specs.declared.TlvAnswer.the-variants as tlv
+use Rattle.reasons.specs.declared.TlvTold.{TlvTold}
 use Rattle.frame.specs.Head.{pduOf, opcodeOf, flagsOf}
-use Rattle.frame.specs.Reader.{answerOf}
-use Rattle.frame.specs.Told.{badOf, told as reader-told}
-use Rattle.frame.specs.Told as Reader
-use Rattle.frame.proofs.Numbers.{agree as reader-agree}
-use Rattle.incoming.specs.declared.MessageAnswer.{MessageAnswer}
-use Rattle.incoming.specs.declared.MessageTold.{MessageTold}
+use Rattle.reader.specs.Reader.{answerOf}
+use Rattle.reasons.specs.Told.{badOf, told as reader-told}
+use Rattle.reader.specs.Numbers as Reader
+use Rattle.reader.proofs.Numbers.{agree as reader-agree}
+use Rattle.kinds.specs.declared.MessageAnswer.{MessageAnswer}
+use Rattle.kinds.specs.declared.MessageTold.{MessageTold}
 use Rattle.incoming.specs.Good.{Good, isBad}
 use Rattle.incoming.specs.Message.{periodCode, codeGood, judgedOf, unlessBad, messageOf}
-use Rattle.incoming.specs.Told.{numbers, opcodeFor, told, isGood, behind, numbersOf, goodOpcode, MessageNumbers}
+use Rattle.kinds.specs.Told.{numbers, opcodeFor, told}
+use Rattle.incoming.specs.Told.{isGood, behind, numbersOf, goodOpcode, MessageNumbers}
 use Rattle.incoming.proofs.Goods.{good-frames}
 
 -- ── the table and the opcodes of handlers ──

@@ -7,11 +7,11 @@ use mathlib.Core.List.{List}
 use mathlib.Core.Logic.{_↔_}
 use lib.ListN.{length, drop}
 use Rattle.opcodes.specs.Opcodes.{ruleOf, known}
-use Rattle.frame.specs.declared.reader.TlvAnswer.{TlvAnswer}
-use Rattle.frame.specs.declared.reader.TlvAnswer.the-variants as answer
+use Rattle.reasons.specs.declared.TlvAnswer.{TlvAnswer}
+use Rattle.reasons.specs.declared.TlvAnswer.the-variants as answer
 use Rattle.frame.specs.Head.{etherTypeOf, pduOf, opcodeOf, offsetOf, startOf}
 use Rattle.tlvs.specs.Tlvs.{walkFrom}
-use Rattle.frame.specs.Reader.{isCut, answerOf, valueOf}
+use Rattle.reader.specs.Reader.{isCut, answerOf, valueOf}
 
 -- what is asked before the TLVs: 1, D3 of a service frame, D1, D3, D4
 pub record Headed (f : List ℕ) : Type 0 where

@@ -7,12 +7,12 @@ use lib.Dec.{eqb}
 use Rattle.opcodes.specs.declared.Handler.{Handler}
 use Rattle.opcodes.specs.declared.Handler.the-variants.{Nobody, ReaderOnly, Continuity, Loopback, Alarm, Lock, LossReply, LossRequest, DelayReply, DelayRequest}
 use Rattle.opcodes.specs.Opcodes.{ruleOf}
-use Rattle.frame.specs.declared.reader.TlvAnswer.{TlvAnswer}
-use Rattle.frame.specs.declared.reader.TlvAnswer.the-variants as tlv
+use Rattle.reasons.specs.declared.TlvAnswer.{TlvAnswer}
+use Rattle.reasons.specs.declared.TlvAnswer.the-variants as tlv
 use Rattle.frame.specs.Head.{pduOf, opcodeOf, flagsOf}
-use Rattle.frame.specs.Reader.{answerOf}
-use Rattle.incoming.specs.declared.MessageAnswer.{MessageAnswer}
-use Rattle.incoming.specs.declared.MessageAnswer.the-variants.{Message, PeriodCode, Bad}
+use Rattle.reader.specs.Reader.{answerOf}
+use Rattle.kinds.specs.declared.MessageAnswer.{MessageAnswer}
+use Rattle.kinds.specs.declared.MessageAnswer.the-variants.{Message, PeriodCode, Bad}
 
 -- the low three bits of the flags
 abbrev pub periodCode : ℕ → ℕ

@@ -1,42 +1,18 @@
--- The paper's numbers for each case of an answer on a message, and for a frame. Definitions and statements only.
+-- The paper's numbers for a frame that is read as a message. Definitions and statements only.
 use Prim.Native.Nat.{ℕ}
 use mathlib.Core.Path.{_≡_}
 use mathlib.Core.Bool.{Bool, true, _&&_, not}
 use mathlib.Core.List.{List, [], _∷_}
 use lib.Dec.{eqb}
 use Rattle.whole.specs.Tests.{choose}
-use Rattle.opcodes.specs.declared.Handler.{Handler}
-use Rattle.opcodes.specs.declared.Handler.the-variants.{Nobody, ReaderOnly, Continuity, Loopback, Alarm, Lock, LossReply, LossRequest, DelayReply, DelayRequest}
 use Rattle.opcodes.specs.Opcodes.{ruleOf, known}
-use Rattle.frame.specs.declared.reader.TlvTold.{TlvTold}
+use Rattle.reasons.specs.declared.TlvTold.{TlvTold}
 use Rattle.frame.specs.Head.{pduOf, opcodeOf, flagsOf}
-use Rattle.frame.specs.Told as Reader
-use Rattle.incoming.specs.declared.MessageAnswer.{MessageAnswer}
-use Rattle.incoming.specs.declared.MessageAnswer.the-variants.{Message, PeriodCode, Bad}
-use Rattle.incoming.specs.declared.MessageTold.{MessageTold}
+use Rattle.reader.specs.Numbers as Reader
+use Rattle.kinds.specs.declared.MessageTold.{MessageTold}
+use Rattle.kinds.specs.Told.{numbers, opcodeFor, told}
 use Rattle.incoming.specs.Good.{Good}
 use Rattle.incoming.specs.Message.{periodCode, codeGood, messageOf}
-
-abbrev pub numbers : ℕ → ℕ → ℕ → MessageTold
-numbers refusal drop opcode = record { refusal = refusal; drop = drop; opcode = opcode }
-
--- the opcode of a handler's messages, as in the paper's table
-abbrev pub opcodeFor : Handler → ℕ
-opcodeFor Nobody = 0
-opcodeFor ReaderOnly = 2
-opcodeFor Continuity = 1
-opcodeFor Loopback = 3
-opcodeFor Alarm = 33
-opcodeFor Lock = 35
-opcodeFor LossReply = 42
-opcodeFor LossRequest = 43
-opcodeFor DelayReply = 46
-opcodeFor DelayRequest = 47
-
-unfoldable pub told : MessageAnswer → MessageTold
-told (Message handler) = numbers 0 0 (opcodeFor handler)
-told PeriodCode = numbers 0 7 0
-told (Bad b) = numbers (Reader.badOf b .refusal) (Reader.badOf b .drop) 0
 
 -- no reason was told
 abbrev pub isGood : TlvTold → Bool

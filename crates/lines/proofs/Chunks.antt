@@ -13,9 +13,9 @@ use Rattle.whole.specs.Lists.{laid}
 use Rattle.whole.proofs.Tests.{known}
 use Rattle.lines.specs.declared.Lines.{Lines}
 use Rattle.lines.specs.declared.Lines.the-variants.{NoRoom, All, Stopped}
-use Rattle.lines.specs.Sheet.{textOf, allGood}
+use Rattle.sheettext.specs.Sheet.{textOf, allGood}
 use Rattle.lines.specs.Chunk.{LinesEnd, ended, room, writeLines, Chunks}
-use Rattle.lines.proofs.Text.{text-long}
+use Rattle.sheettext.proofs.Text.{text-long}
 
 module _ (octets buffer : List ℕ) where
   abbrev o : LinesEnd

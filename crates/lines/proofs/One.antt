@@ -3,11 +3,7 @@
 use mathlib.Core.Path.{_≡_, sym, ap, _∙_}
 use denote.Ref.{now}
 use Rattle.lines.specs.Chunk.{LinesEnd}
-use Rattle.lines.proofs.header.Reads as header
 use Rattle.lines.proofs.write_lines.Reads as write-lines
-
-pub header-one : (κs : _) (a : _) (r r′ : _) (s s′ : _) → header.Post κs a r s → header.Post κs a r′ s′ → r ≡ r′
-header-one κs a r r′ s s′ p q = p ∙ sym q
 
 pub write-lines-one : (κs : _) (a : _) (r r′ : _) (s s′ : _) → write-lines.Post κs a r s → write-lines.Post κs a r′ s′ → (r ≡ r′) × (now (s .0) ≡ now (s′ .0))
 write-lines-one κs a r r′ s s′ p q = (ap (λ (t : LinesEnd). t .answer) (p ∙ sym q), ap (λ (t : LinesEnd). t .buffer) (p ∙ sym q))

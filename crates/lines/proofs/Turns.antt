@@ -19,10 +19,10 @@ use Rattle.decimal.proofs.Put.{put-laid, put-place}
 use Rattle.lossrecord.specs.declared.LossLine.{LossLine}
 use Rattle.lossrecord.specs.declared.LineAnswer.the-variants.{Refused, Line}
 use Rattle.lossrecord.specs.Calls.{readLine}
-use Rattle.lines.specs.Sheet.{refusedText, lineText, answerText, isLine, textOf, allGood}
+use Rattle.sheettext.specs.Sheet.{refusedText, lineText, answerText, isLine, textOf, allGood}
 use Rattle.lines.specs.Chunk.{ended, room, writeLines}
 use Rattle.lines.specs.declared.Lines.the-variants.{All, Stopped}
-use Rattle.lines.proofs.Text.{whole-record, answer-long, text-none, good-none, text-good, good-good, text-bad, good-bad}
+use Rattle.sheettext.proofs.Text.{whole-record, answer-long, text-none, good-none, text-good, good-good, text-bad, good-bad}
 use Rattle.lines.proofs.Chunks.{ends-all, ends-stopped}
 
 -- ── the pieces of a line ──

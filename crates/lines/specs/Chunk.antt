@@ -10,7 +10,7 @@ use Rattle.whole.specs.Tests.{choose}
 use Rattle.whole.specs.Lists.{laid}
 use Rattle.lines.specs.declared.Lines.{Lines}
 use Rattle.lines.specs.declared.Lines.the-variants.{NoRoom, All, Stopped}
-use Rattle.lines.specs.Sheet.{textOf, allGood}
+use Rattle.sheettext.specs.Sheet.{textOf, allGood}
 
 -- what is answered, and what the buffer then holds
 pub record LinesEnd : Type 0 where

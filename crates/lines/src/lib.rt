@@ -1,4 +1,4 @@
-// The sheet's text: its header, a line for each loss record, and the refusal at a bad one.
+// The text of a chunk of records, written into a buffer: a line for each loss record, and the refusal at a bad one.
 ghost use mathlib.Core.Path.{_≡_};
 ghost use mathlib.Core.List.{[], _∷_, _++_};
 ghost use Prim.Native.Nat.{_+_, _≤_};
@@ -6,9 +6,9 @@ ghost use lib.ListN.{length};
 ghost use Rattle.whole.specs.Lists.{laid};
 ghost use Rattle.decimal.specs.Decimal.{decimal};
 ghost use Rattle.lossrecord.specs.Calls.{readLine};
-ghost use Rattle.lines.specs.Sheet.{headerText, lineText, refusedText, answerText, isLine};
+ghost use Rattle.sheettext.specs.Sheet.{lineText, refusedText, answerText, isLine};
 ghost use Rattle.lines.specs.Chunk.{ended, writeLines};
-use decimal::write_decimal;
+use digits::write_decimal;
 use lossrecord::LINE;
 use lossrecord::LineAnswer;
 use lossrecord::LossLine;
@@ -32,13 +32,6 @@ pub enum Lines {
 struct Turn {
     at: usize,
     good: bool,
-}
-
-// The first line of a sheet.
-pub fn header() -> [u8; 19]
-    ensures { λ r. ⌜ r ≡ headerText ⌝ }
-{
-    *b"intervals near far\n"
 }
 
 // Writes a number and one octet behind it at a place, and answers the place behind both.

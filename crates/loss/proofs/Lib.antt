@@ -1,4 +1,3 @@
-pub mod Growing
 pub mod Laws
 pub mod Numbers
 pub mod One

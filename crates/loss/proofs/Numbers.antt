@@ -6,12 +6,13 @@ use mathlib.Core.List.{[], _∷_}
 use lib.Dec.{eqb}
 use Rattle.whole.specs.Tests.{choose}
 use Rattle.whole.proofs.Tests.{choose-map}
-use Rattle.loss.specs.declared.Readings.{Readings}
-use Rattle.loss.specs.declared.LossSession.{LossSession}
+use Rattle.session.specs.declared.Readings.{Readings}
+use Rattle.session.specs.declared.LossSession.{LossSession}
 use Rattle.loss.specs.declared.LossAnswer.{LossAnswer}
 use Rattle.loss.specs.declared.LossAnswer.the-variants.{NotWellFormed, Full, First, Measured}
 use Rattle.loss.specs.declared.Updated.{Updated}
-use Rattle.loss.specs.Session.{wellFormed, unchanged, firstOf, measuredOf, afterReading}
+use Rattle.session.specs.Session.{wellFormed}
+use Rattle.loss.specs.Reading.{unchanged, firstOf, measuredOf, afterReading}
 use Rattle.loss.specs.Told.{told, numbersOf, LossNumbers}
 
 -- the two chains have the same tests, in the same order

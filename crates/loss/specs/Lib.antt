@@ -1,3 +1,2 @@
-pub mod Growth
-pub mod Session
+pub mod Reading
 pub mod Told

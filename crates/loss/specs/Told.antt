@@ -7,12 +7,13 @@ use mathlib.Core.List.{[], _∷_}
 use lib.Dec.{eqb}
 use lib.IntN.{ℤ, pos}
 use Rattle.whole.specs.Tests.{choose}
-use Rattle.loss.specs.declared.Readings.{Readings}
-use Rattle.loss.specs.declared.LossSession.{LossSession}
+use Rattle.session.specs.declared.Readings.{Readings}
+use Rattle.session.specs.declared.LossSession.{LossSession}
 use Rattle.loss.specs.declared.LossAnswer.{LossAnswer}
 use Rattle.loss.specs.declared.LossAnswer.the-variants.{NotWellFormed, Full, First, Measured}
 use Rattle.loss.specs.declared.LossTold.{LossTold}
-use Rattle.loss.specs.Session.{near, far, lossOn, wellFormed}
+use Rattle.session.specs.Session.{near, far, wellFormed}
+use Rattle.loss.specs.Reading.{lossOn}
 
 abbrev pub refused : ℕ → LossTold
 refused n = record { refusal = n; near = pos 0; far = pos 0 }

@@ -16,8 +16,8 @@ use Rattle.whole.proofs.Pieces.{first, more}
 use Rattle.whole.proofs.Stored.{fits-size}
 use Rattle.octets.specs.Numbers.{littleEndian, number, inOctets, Octets}
 use Rattle.octets.proofs.Laws.{length-octets, number-back, read-again, signed-octets, signed-again}
-use Rattle.loss.specs.Session.{Side, near, far, totalOf, WellFormed}
-use Rattle.loss.proofs.Laws.{sessions}
+use Rattle.session.specs.Session.{Side, near, far, totalOf, WellFormed}
+use Rattle.session.proofs.Laws.{well}
 use Rattle.record.proofs.Laws.{record-long}
 use Rattle.lossrecord.specs.declared.LossLine.{LossLine}
 use Rattle.lossrecord.specs.Line.{KeepsRules, sessionOf, keepsRules, signedOctets, lineBody, lineRecord, signedAt, lineIn}
@@ -36,7 +36,7 @@ module _ (line : LossLine) where
       total far = k .far
 
   pub rules : (keepsRules line ≡ true) ↔ KeepsRules line
-  rules = (λ t. rules-to (sessions .well (sessionOf line) .0 t), λ k. sessions .well (sessionOf line) .1 (rules-from k))
+  rules = (λ t. rules-to (well (sessionOf line) .0 t), λ k. well (sessionOf line) .1 (rules-from k))
 
   -- a line that keeps them fits in its octets
   module _ (k : KeepsRules line) where

@@ -8,8 +8,8 @@ use mir.Syntax.{w64}
 use mir.Val.{toZ, ofZ}
 use Rattle.whole.specs.Lists.{part}
 use Rattle.octets.specs.Numbers.{littleEndian, number, inOctets}
-use Rattle.loss.specs.declared.LossSession.{LossSession}
-use Rattle.loss.specs.Session.{noReadings, wellFormed}
+use Rattle.session.specs.declared.LossSession.{LossSession}
+use Rattle.session.specs.Session.{noReadings, wellFormed}
 use Rattle.record.specs.Record.{recordOf}
 use Rattle.lossrecord.specs.declared.LossLine.{LossLine}
 

@@ -6,17 +6,17 @@ ghost use Rattle.record.specs.Writing.{ended};
 ghost use Rattle.record.specs.Writing as written;
 ghost use Rattle.lossrecord.specs.Line.{sessionOf, keepsRules, lineBody, lineIn};
 ghost use Rattle.lossrecord.specs.Calls.{readLine, writeLine, writtenNumbers, told, numbersOf};
-use loss::LossSession;
-use loss::Readings;
-use loss::well_formed;
 use octets::numbers::read_little;
 use octets::numbers::read_little_signed;
 use octets::numbers::write_little;
 use octets::numbers::write_little_signed;
-use record::HEAD;
 use record::RecordAnswer;
-use record::is_record;
-use record::write_record;
+use recordhead::HEAD;
+use recordhead::is_record;
+use recordhead::write_record;
+use session::LossSession;
+use session::Readings;
+use session::well_formed;
 
 // The record's kind, and the octets of its body.
 const KIND: u16 = 2;

@@ -10,10 +10,12 @@ use lib.IntN.{pos}
 use lib.ListN.{length}
 use borrow.Author.Tests.{eqb-true, eqb-false}
 use Rattle.whole.proofs.Tests.{known}
-use Rattle.loss.specs.declared.Readings.{Readings}
-use Rattle.loss.specs.declared.LossSession.{LossSession}
-use Rattle.loss.specs.Session.{near, far, lossOn, clearedSession, WellFormed, afterReading}
-use Rattle.loss.proofs.Laws.{well, cleared-well, stays, reading-first, reading-measured}
+use Rattle.session.specs.declared.Readings.{Readings}
+use Rattle.session.specs.declared.LossSession.{LossSession}
+use Rattle.session.specs.Session.{near, far, clearedSession, WellFormed}
+use Rattle.loss.specs.Reading.{lossOn, afterReading}
+use Rattle.session.proofs.Laws.{well, cleared-well}
+use Rattle.loss.proofs.Laws.{stays, reading-first, reading-measured}
 use Rattle.account.specs.Demand3.{answers}
 use Rattle.lossruns.specs.Runs.{Each}
 use Rattle.lossruns.specs.Demand3.{Measured, measured}

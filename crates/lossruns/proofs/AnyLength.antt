@@ -9,12 +9,12 @@ use lib.ListN.{length, take, drop, replicate, take-append-drop, length-drop}
 use lib.Seq.{take-all, length-take-le}
 use borrow.Author.Tests.{leb-true, leb-false}
 use Rattle.clock.specs.Run.{after}
-use Rattle.loss.specs.declared.Readings.{Readings}
-use Rattle.loss.specs.declared.LossSession.{LossSession}
+use Rattle.session.specs.declared.Readings.{Readings}
+use Rattle.session.specs.declared.LossSession.{LossSession}
 use Rattle.loss.specs.declared.LossAnswer.{LossAnswer}
 use Rattle.loss.specs.declared.LossAnswer.the-variants.{Full}
 use Rattle.loss.specs.declared.Updated.{Updated}
-use Rattle.loss.specs.Session.{clearedSession}
+use Rattle.session.specs.Session.{clearedSession}
 use Rattle.account.specs.Demand3.{Step, answers, leaves, Demand3}
 use Rattle.lossruns.specs.Replies.{most}
 

@@ -5,8 +5,8 @@ use mathlib.Core.List.{List, [], _∷_, _++_, map}
 use lib.IntN.{pos}
 use lib.ListN.{length, replicate, length-map}
 use Rattle.whole.specs.Lists.{every}
-use Rattle.loss.specs.declared.Readings.{Readings}
-use Rattle.loss.specs.Session.{Side, near, far}
+use Rattle.session.specs.declared.Readings.{Readings}
+use Rattle.session.specs.Session.{Side, near, far}
 use Rattle.account.specs.Account.{Truth, lost, losses}
 use Rattle.account.specs.Demand3.{Shows, Counts, truthOf, shown, Steady}
 use Rattle.account.proofs.Both.{shows}

@@ -14,9 +14,9 @@ use Rattle.state.proofs.Rules.{well-formed-is}
 use Rattle.demands.specs.Calls as call
 use Rattle.demands.specs.Calls.{Call, OnWire, Box}
 use Rattle.demands.specs.Ours.{Follows}
-use Rattle.demands.specs.Promised as table
-use Rattle.demands.specs.Promised.{Refusal}
-use Rattle.demands.proofs.Promised.{promises}
+use Rattle.promised.specs.Refusals as table
+use Rattle.promised.specs.Refusals.{Refusal}
+use Rattle.promised.proofs.Promised.{promises}
 use Rattle.lossruns.specs.Runs.{run, Each, NoSetting, Event, reply, received, sent, other, Is, Events, none, next, receivedIn, sentIn}
 use Rattle.lossruns.specs.Runs as event
 use Rattle.lossruns.proofs.Lift.{Within, here, onward}

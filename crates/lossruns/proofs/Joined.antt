@@ -7,7 +7,7 @@ use lib.IntN.{ℤ}
 use lib.ListN.{replicate}
 use Rattle.whole.specs.Lists.{every}
 use Rattle.whole.proofs.Tests.{split}
-use Rattle.loss.specs.Session.{near, far}
+use Rattle.session.specs.Session.{near, far}
 use Rattle.demands.specs.Calls.{Answer}
 use Rattle.demands.specs.Calls as told
 use Rattle.lossruns.specs.Replies.{Seen, refused, loss, silence, seen}

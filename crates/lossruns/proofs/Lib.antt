@@ -7,7 +7,6 @@ pub mod Tied
 pub mod Answered
 pub mod Whole
 pub mod Meets
-pub mod Refuted
 pub mod Joined
 pub mod Tight
 pub mod Both

@@ -4,13 +4,14 @@ use mathlib.Core.Path.{_≡_, refl, sym, ap, ap₂, _∙_}
 use mathlib.Core.List.{List, [], _∷_, _++_, map, map-append}
 use lib.IntN.{ℤ, pos}
 use lib.ListN.{length, take, replicate}
-use Rattle.loss.specs.declared.Readings.{Readings}
-use Rattle.loss.specs.declared.LossSession.{LossSession}
+use Rattle.session.specs.declared.Readings.{Readings}
+use Rattle.session.specs.declared.LossSession.{LossSession}
 use Rattle.loss.specs.declared.LossAnswer.{LossAnswer}
 use Rattle.loss.specs.declared.LossAnswer.the-variants as answer
 use Rattle.loss.specs.declared.Updated.{Updated}
-use Rattle.loss.specs.Session.{Side, near, far, totalOf, clearedSession, afterReading}
-use Rattle.loss.proofs.Laws.{cleared-well}
+use Rattle.session.specs.Session.{Side, near, far, totalOf, clearedSession}
+use Rattle.loss.specs.Reading.{afterReading}
+use Rattle.session.proofs.Laws.{cleared-well}
 use Rattle.account.specs.Account.{Truth, Sound, losses}
 use Rattle.account.specs.Demand3 as account
 use Rattle.account.specs.Demand3.{Shows}
@@ -23,11 +24,13 @@ use Rattle.settings.specs.Valid.{Valid}
 use Rattle.start.specs.Start.{startOf}
 use Rattle.start.proofs.Starts.{starts}
 use Rattle.demands.proofs.Started.{fresh-own}
-use Rattle.demands.proofs.Kept.{session-put}
+use Rattle.promised.proofs.Kept.{session-put}
 use Rattle.demands.specs.Calls.{Arrival, Call, new-setting, frame, clear, Answer, leaves, OnWire, Box}
 use Rattle.demands.specs.Calls as told
 use Rattle.demands.specs.Said as paper
-use Rattle.demands.specs.Said.{LossReply}
+use Rattle.demands.specs.Called as calling
+use Rattle.demands.specs.Made as made
+use Rattle.demands.specs.Taken.{LossReply}
 use Rattle.demands.specs.Ours.{ours, Follows}
 use Rattle.demands.proofs.Follows.{ours-follows}
 use Rattle.lossruns.specs.Runs.{run, answers, Each, NoSetting, Event}
@@ -137,17 +140,17 @@ module _ (B : Box) (F : Follows B) where
         let y = run B s cs in
         let w = lifted .end in
         let e = F .follows y (frame a) _ u (reply-said y a (reply-to s y a (w .well) (sym (w .settings)) l)) in
-        let full : afterReading (y .session) (paper.reading y a) ≡ record { answer = answer.Full; session = y .session } = rw session-is (Account.meets .later rs (paper.reading y a) many) in
+        let full : afterReading (y .session) (made.reading y a) ≡ record { answer = answer.Full; session = y .session } = rw session-is (Account.meets .later rs (made.reading y a) many) in
         e ∙ ap (λ (x : Updated). leaves (toldOf (x .answer)) (withSession (x .session) y) (a .buffer)) full
 
   cleared : (s : State) → WellFormed s → Begins (s .settings) (B s clear .state)
   cleared s w =
-      let e = F .follows s clear _ tt (paper.clears w) in
+      let e = F .follows s clear _ tt (paper.by-call (calling.clears w)) in
       record { settings = rw e refl; well = rw e (session-put s clearedSession cleared-well w); cleared = rw e refl }
 
   set : (s : State) (t : Settings) → Valid t → Begins t (B s (new-setting t) .state) × (B s (new-setting t) .state .received ≡ 0) × (B s (new-setting t) .state .sent ≡ 0)
   set s t v =
-      let e = F .follows s (new-setting t) _ tt (paper.setting-starts t (startOf t) v (fresh-own t)) in
+      let e = F .follows s (new-setting t) _ tt (paper.by-call (calling.setting-starts t (startOf t) v (fresh-own t))) in
       (record { settings = rw e refl; well = rw e (starts .well t v); cleared = rw e refl }, rw e refl, rw e refl)
 
   kept : (s : State) (cs : List Call) → WellFormed s → Each OnWire cs → Each NoSetting cs → WellFormed (run B s cs) × (run B s cs .settings ≡ s .settings)

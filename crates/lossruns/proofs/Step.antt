@@ -9,24 +9,31 @@ use lib.Dec.{eqb}
 use lib.IntN.{pos}
 use borrow.Author.Tests.{eqb-true, eqb-false}
 use Rattle.whole.proofs.Tests.{known}
-use Rattle.loss.specs.declared.Readings.{Readings}
-use Rattle.loss.specs.declared.LossSession.{LossSession}
+use Rattle.session.specs.declared.Readings.{Readings}
+use Rattle.session.specs.declared.LossSession.{LossSession}
 use Rattle.loss.specs.declared.LossAnswer.{LossAnswer}
 use Rattle.loss.specs.declared.LossAnswer.the-variants as answer
 use Rattle.loss.specs.declared.Updated.{Updated}
-use Rattle.loss.specs.Session.{readings, afterReading}
-use Rattle.loss.proofs.Laws.{well, reading-first, reading-full, reading-measured}
+use Rattle.session.specs.Session.{readings}
+use Rattle.loss.specs.Reading.{afterReading}
+use Rattle.session.proofs.Laws.{well}
+use Rattle.loss.proofs.Laws.{reading-first, reading-full, reading-measured}
 use Rattle.state.specs.State.{State}
 use Rattle.state.specs.Changed.{withSession}
 use Rattle.state.specs.WellFormed.{WellFormed}
 use Rattle.demands.specs.Calls as call
 use Rattle.demands.specs.Calls.{Arrival, Call, Answer, refused, loss, Outcome, leaves, OnWire, Box}
 use Rattle.demands.specs.Said as said
-use Rattle.demands.specs.Said.{Said, LossReply}
+use Rattle.demands.specs.Judged as judging
+use Rattle.demands.specs.Handling as handling
+use Rattle.demands.specs.Called as calling
+use Rattle.demands.specs.Made as made
+use Rattle.demands.specs.Taken.{LossReply}
+use Rattle.demands.specs.Said.{Said}
 use Rattle.demands.specs.Ours.{Follows}
-use Rattle.demands.specs.Promised as table
-use Rattle.demands.specs.Promised.{Refusal}
-use Rattle.demands.proofs.Promised.{promises}
+use Rattle.promised.specs.Refusals as table
+use Rattle.promised.specs.Refusals.{Refusal}
+use Rattle.promised.proofs.Promised.{promises}
 use Rattle.lossruns.specs.Runs.{NoSetting, NoClear, Event, Neither, Is}
 use Rattle.lossruns.specs.Runs as event
 
@@ -43,68 +50,68 @@ abbrev Same : State → State → Type 0
 Same y z = (z .settings ≡ y .settings) × (z .received ≡ y .received) × (z .sent ≡ y .sent) × (z .session ≡ y .session)
 
 quiet : {y : State} {a : Arrival} {o : Outcome} → Neither y a → Said y (call.frame a) o → Same y (o .state)
-quiet n (said.frame-2 a v) = (refl, refl, refl, refl)
-quiet n (said.frame-1 a v h) = (refl, refl, refl, refl)
-quiet n (said.frame-6-receive a v h g) = (refl, refl, refl, refl)
-quiet n (said.frame-6-transmit a v h g) = (refl, refl, refl, refl)
-quiet n (said.rule-1-received a h k e) = absurd (n .received (record { heeded = h; service = k; from = e }))
-quiet n (said.rule-1-sent a h k e) = absurd (n .sent (record { heeded = h; service = k; from = e }))
-quiet n (said.rule-2-D1 a h e k) = (refl, refl, refl, refl)
-quiet n (said.rule-2-above a o k) = (refl, refl, refl, refl)
-quiet n (said.rule-2-passive a o e k) = (refl, refl, refl, refl)
-quiet n (said.rule-3-ccm a o e k g) = (refl, refl, refl, refl)
-quiet n (said.rule-3-other a o e k g) = (refl, refl, refl, refl)
-quiet n (said.rule-4-D3 a l h) = (refl, refl, refl, refl)
-quiet n (said.rule-4-D4 a l d) = (refl, refl, refl, refl)
-quiet n (said.rule-4-D5 a least l h o d) = (refl, refl, refl, refl)
-quiet n (said.rule-4-D6 a least l h o d e) = (refl, refl, refl, refl)
-quiet n (said.rule-4-D7-ccm a l q o e) = (refl, refl, refl, refl)
-quiet n (said.rule-4-D7-alarm a l q o e) = (refl, refl, refl, refl)
-quiet n (said.rule-4-D7-delay a l d) = (refl, refl, refl, refl)
-quiet n (said.rule-5-mismerge a k m) = (refl, refl, refl, refl)
-quiet n (said.rule-5-mep a k m u) = (refl, refl, refl, refl)
-quiet n (said.rule-5-peer a k p e) = (refl, refl, refl, refl)
-quiet n (said.rule-5-period a k p e) = (refl, refl, refl, refl)
-quiet n (said.rule-5-ais a l q e o) = (refl, refl, refl, refl)
-quiet n (said.rule-5-lck a l q e o) = (refl, refl, refl, refl)
-quiet n (said.rule-6 a reply l q r h) = (refl, refl, refl, refl)
-quiet n (said.frame-3 a reply l q r h) = (refl, refl, refl, refl)
-quiet n (said.rule-7-first a l k) = absurd (n .reply l)
-quiet n (said.rule-7-later a l k m) = absurd (n .reply l)
-quiet n (said.frame-5 a l k m) = absurd (n .reply l)
-quiet n (said.rule-8-two-way a g p h) = (refl, refl, refl, refl)
-quiet n (said.rule-8-all-ways a g p x y z) = (refl, refl, refl, refl)
-quiet n (said.rule-8-D8-two-way a g p h) = (refl, refl, refl, refl)
-quiet n (said.rule-8-D8-all-ways a g p h) = (refl, refl, refl, refl)
+quiet n (said.by-rules-1-to-4 (judging.frame-2 a v)) = (refl, refl, refl, refl)
+quiet n (said.by-rules-1-to-4 (judging.frame-1 a v h)) = (refl, refl, refl, refl)
+quiet n (said.by-rules-1-to-4 (judging.frame-6-receive a v h g)) = (refl, refl, refl, refl)
+quiet n (said.by-rules-1-to-4 (judging.frame-6-transmit a v h g)) = (refl, refl, refl, refl)
+quiet n (said.by-rules-1-to-4 (judging.rule-1-received a h k e)) = absurd (n .received (record { heeded = h; service = k; from = e }))
+quiet n (said.by-rules-1-to-4 (judging.rule-1-sent a h k e)) = absurd (n .sent (record { heeded = h; service = k; from = e }))
+quiet n (said.by-rules-1-to-4 (judging.rule-2-D1 a h e k)) = (refl, refl, refl, refl)
+quiet n (said.by-rules-1-to-4 (judging.rule-2-above a o k)) = (refl, refl, refl, refl)
+quiet n (said.by-rules-1-to-4 (judging.rule-2-passive a o e k)) = (refl, refl, refl, refl)
+quiet n (said.by-rules-1-to-4 (judging.rule-3-ccm a o e k g)) = (refl, refl, refl, refl)
+quiet n (said.by-rules-1-to-4 (judging.rule-3-other a o e k g)) = (refl, refl, refl, refl)
+quiet n (said.by-rules-1-to-4 (judging.rule-4-D3 a l h)) = (refl, refl, refl, refl)
+quiet n (said.by-rules-1-to-4 (judging.rule-4-D4 a l d)) = (refl, refl, refl, refl)
+quiet n (said.by-rules-1-to-4 (judging.rule-4-D5 a least l h o d)) = (refl, refl, refl, refl)
+quiet n (said.by-rules-1-to-4 (judging.rule-4-D6 a least l h o d e)) = (refl, refl, refl, refl)
+quiet n (said.by-rules-1-to-4 (judging.rule-4-D7-ccm a l q o e)) = (refl, refl, refl, refl)
+quiet n (said.by-rules-1-to-4 (judging.rule-4-D7-alarm a l q o e)) = (refl, refl, refl, refl)
+quiet n (said.by-rules-1-to-4 (judging.rule-4-D7-delay a l d)) = (refl, refl, refl, refl)
+quiet n (said.by-rules-5-to-8 (handling.rule-5-mismerge a k m)) = (refl, refl, refl, refl)
+quiet n (said.by-rules-5-to-8 (handling.rule-5-mep a k m u)) = (refl, refl, refl, refl)
+quiet n (said.by-rules-5-to-8 (handling.rule-5-peer a k p e)) = (refl, refl, refl, refl)
+quiet n (said.by-rules-5-to-8 (handling.rule-5-period a k p e)) = (refl, refl, refl, refl)
+quiet n (said.by-rules-5-to-8 (handling.rule-5-ais a l q e o)) = (refl, refl, refl, refl)
+quiet n (said.by-rules-5-to-8 (handling.rule-5-lck a l q e o)) = (refl, refl, refl, refl)
+quiet n (said.by-rules-5-to-8 (handling.rule-6 a reply l q r h)) = (refl, refl, refl, refl)
+quiet n (said.by-rules-5-to-8 (handling.frame-3 a reply l q r h)) = (refl, refl, refl, refl)
+quiet n (said.by-rules-5-to-8 (handling.rule-7-first a l k)) = absurd (n .reply l)
+quiet n (said.by-rules-5-to-8 (handling.rule-7-later a l k m)) = absurd (n .reply l)
+quiet n (said.by-rules-5-to-8 (handling.frame-5 a l k m)) = absurd (n .reply l)
+quiet n (said.by-rules-5-to-8 (handling.rule-8-two-way a g p h)) = (refl, refl, refl, refl)
+quiet n (said.by-rules-5-to-8 (handling.rule-8-all-ways a g p x y z)) = (refl, refl, refl, refl)
+quiet n (said.by-rules-5-to-8 (handling.rule-8-D8-two-way a g p h)) = (refl, refl, refl, refl)
+quiet n (said.by-rules-5-to-8 (handling.rule-8-D8-all-ways a g p h)) = (refl, refl, refl, refl)
 
 quiet-tick : {y : State} {b : List ℕ} {o : Outcome} → Said y (call.tick b) o → Same y (o .state)
-quiet-tick (said.tick-2 b v) = (refl, refl, refl, refl)
-quiet-tick (said.tick-lowers b v h) = (refl, refl, refl, refl)
-quiet-tick (said.tick-3 b v e h) = (refl, refl, refl, refl)
-quiet-tick (said.tick-sends b r v e h f) = (refl, refl, refl, refl)
+quiet-tick (said.by-call (calling.tick-2 b v)) = (refl, refl, refl, refl)
+quiet-tick (said.by-call (calling.tick-lowers b v h)) = (refl, refl, refl, refl)
+quiet-tick (said.by-call (calling.tick-3 b v e h)) = (refl, refl, refl, refl)
+quiet-tick (said.by-call (calling.tick-sends b r v e h f)) = (refl, refl, refl, refl)
 
 quiet-lmm : {y : State} {b : List ℕ} {o : Outcome} → Said y (call.send-LMM b) o → Same y (o .state)
-quiet-lmm (said.lmm-2 b v) = (refl, refl, refl, refl)
-quiet-lmm (said.lmm-3 b v h) = (refl, refl, refl, refl)
-quiet-lmm (said.lmm-sends b v h) = (refl, refl, refl, refl)
+quiet-lmm (said.by-call (calling.lmm-2 b v)) = (refl, refl, refl, refl)
+quiet-lmm (said.by-call (calling.lmm-3 b v h)) = (refl, refl, refl, refl)
+quiet-lmm (said.by-call (calling.lmm-sends b v h)) = (refl, refl, refl, refl)
 
 quiet-dmm : {y : State} {t : _} {b : List ℕ} {o : Outcome} → Said y (call.send-DMM t b) o → Same y (o .state)
-quiet-dmm (said.dmm-2 t b v) = (refl, refl, refl, refl)
-quiet-dmm (said.dmm-6 t b v g) = (refl, refl, refl, refl)
-quiet-dmm (said.dmm-3 t b v g h) = (refl, refl, refl, refl)
-quiet-dmm (said.dmm-sends t b v g h) = (refl, refl, refl, refl)
+quiet-dmm (said.by-call (calling.dmm-2 t b v)) = (refl, refl, refl, refl)
+quiet-dmm (said.by-call (calling.dmm-6 t b v g)) = (refl, refl, refl, refl)
+quiet-dmm (said.by-call (calling.dmm-3 t b v g h)) = (refl, refl, refl, refl)
+quiet-dmm (said.by-call (calling.dmm-sends t b v g h)) = (refl, refl, refl, refl)
 
 quiet-conditions : {y : State} {o : Outcome} → Said y call.conditions o → Same y (o .state)
-quiet-conditions (said.conditions-2 v) = (refl, refl, refl, refl)
-quiet-conditions (said.conditions-show r v h) = (refl, refl, refl, refl)
+quiet-conditions (said.by-call (calling.conditions-2 v)) = (refl, refl, refl, refl)
+quiet-conditions (said.by-call (calling.conditions-show r v h)) = (refl, refl, refl, refl)
 
 -- a clear leaves the settings and the counts
 abbrev Calm : State → State → Type 0
 Calm y z = (z .settings ≡ y .settings) × (z .received ≡ y .received) × (z .sent ≡ y .sent)
 
 calm-clear : {y : State} {o : Outcome} → Said y call.clear o → Calm y (o .state)
-calm-clear (said.clear-2 v) = (refl, refl, refl)
-calm-clear (said.clears v) = (refl, refl, refl)
+calm-clear (said.by-call (calling.clear-2 v)) = (refl, refl, refl)
+calm-clear (said.by-call (calling.clears v)) = (refl, refl, refl)
 
 -- ── one call, whatever it is ──
 
@@ -161,7 +168,7 @@ four (table.conditions-2 v) e k = omega (arith, e)
 
 module _ (y : State) (a : Arrival) (l : LossReply y a) where
   abbrev read : Readings
-  read = said.reading y a
+  read = made.reading y a
 
   abbrev updated : Updated → Outcome
   updated u = leaves (toldOf (u .answer)) (withSession (u .session) y) (a .buffer)
@@ -174,18 +181,18 @@ module _ (y : State) (a : Arrival) (l : LossReply y a) where
       ⊎-elim
       (λ (t : eqb (y .session .kept) 0 ≡ true).
       let k = eqb-true (y .session .kept) 0 t in
-      rw (reading-first (y .session) read v k) (said.rule-7-first a l k))
+      rw (reading-first (y .session) read v k) (said.by-rules-5-to-8 (handling.rule-7-first a l k)))
       (λ (t : eqb (y .session .kept) 0 ≡ false).
       let n = eqb-false (y .session .kept) 0 t in
       let k : y .session .kept ≡ 1 = omega (arith, n, x .flag) in
       ⊎-elim
       (λ (q : eqb (y .session .intervals) 1000000000 ≡ true).
       let f = eqb-true (y .session .intervals) 1000000000 q in
-      rw (reading-full (y .session) read v n f) (said.frame-5 a l k f))
+      rw (reading-full (y .session) read v n f) (said.by-rules-5-to-8 (handling.frame-5 a l k f)))
       (λ (q : eqb (y .session .intervals) 1000000000 ≡ false).
       let f = eqb-false (y .session .intervals) 1000000000 q in
       let few : y .session .intervals < 1000000000 = omega (arith, f, x .few) in
-      rw (reading-measured (y .session) read v n f) (said.rule-7-later a l k few))
+      rw (reading-measured (y .session) read v n f) (said.by-rules-5-to-8 (handling.rule-7-later a l k few)))
       (known (eqb (y .session .intervals) 1000000000)))
       (known (eqb (y .session .kept) 0))
 
@@ -202,8 +209,8 @@ step-other y call.conditions o k n p = let q = quiet-conditions p in record { se
 module _ (B : Box) (F : Follows B) where
   pub step : (y : State) (c : Call) (e : Event) → OnWire c → NoSetting c → Is y c e → Step y c e (B y c)
   step y c e u k (event.is-reply a l) = rw (F .follows y (call.frame a) _ u (reply-said y a l)) (record { settings = refl; received = refl; sent = refl; session = λ z. refl; answer = refl })
-  step y c e u k (event.is-received a h) = rw (F .follows y (call.frame a) _ u (said.rule-1-received a (h .heeded) (h .service) (h .from))) (record { settings = refl; received = refl; sent = refl; session = λ z. refl; answer = tt })
-  step y c e u k (event.is-sent a h) = rw (F .follows y (call.frame a) _ u (said.rule-1-sent a (h .heeded) (h .service) (h .from))) (record { settings = refl; received = refl; sent = refl; session = λ z. refl; answer = tt })
+  step y c e u k (event.is-received a h) = rw (F .follows y (call.frame a) _ u (said.by-rules-1-to-4 (judging.rule-1-received a (h .heeded) (h .service) (h .from)))) (record { settings = refl; received = refl; sent = refl; session = λ z. refl; answer = tt })
+  step y c e u k (event.is-sent a h) = rw (F .follows y (call.frame a) _ u (said.by-rules-1-to-4 (judging.rule-1-sent a (h .heeded) (h .service) (h .from)))) (record { settings = refl; received = refl; sent = refl; session = λ z. refl; answer = tt })
   step y c e u k (event.is-other x n) = let p = promises .says y x u in rw (F .follows y x (p .0) u (p .1)) (step-other y x (p .0) k n (p .1))
 
   -- a well-formed state stays so

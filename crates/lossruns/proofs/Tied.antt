@@ -5,7 +5,7 @@ use mathlib.Core.Path.{refl}
 use mathlib.Core.List.{List, [], _∷_}
 use native.Mathlib.Omega.{arith}
 use lib.ListN.{take}
-use Rattle.loss.specs.Session.{near}
+use Rattle.session.specs.Session.{near}
 use Rattle.account.specs.Account.{Grows, GoesOn, Sound}
 use Rattle.account.specs.Demand3.{Shows}
 use Rattle.lossruns.specs.Runs.{Event, reply, received, sent, other}

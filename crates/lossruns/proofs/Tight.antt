@@ -8,8 +8,8 @@ use lib.ListN.{length, take, drop}
 use Rattle.whole.specs.Lists.{every, part}
 use Rattle.octets.specs.Numbers.{number, bigEndian, Octets}
 use Rattle.octets.proofs.Laws.{number-below, part-octets}
-use Rattle.loss.specs.declared.Readings.{Readings}
-use Rattle.loss.specs.Session.{Side, near, far, readings, sentOf, receivedOf, totalOf}
+use Rattle.session.specs.declared.Readings.{Readings}
+use Rattle.session.specs.Session.{Side, near, far, readings, sentOf, receivedOf, totalOf}
 use Rattle.account.specs.Account.{Truth}
 use Rattle.account.specs.Demand3.{Small}
 use Rattle.account.proofs.Tight.{shown-by}

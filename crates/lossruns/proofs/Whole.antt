@@ -11,7 +11,7 @@ use borrow.Author.Tests.{leb-true, leb-false, eqb-true, eqb-false}
 use Rattle.whole.proofs.Tests.{known}
 use Rattle.loss.specs.declared.LossAnswer.{LossAnswer}
 use Rattle.loss.specs.declared.LossAnswer.the-variants as answer
-use Rattle.loss.specs.Session.{afterReading}
+use Rattle.loss.specs.Reading.{afterReading}
 use Rattle.loss.proofs.Laws.{refuses-2}
 use Rattle.state.specs.State.{State}
 use Rattle.state.specs.WellFormed.{wellFormed}
@@ -21,8 +21,12 @@ use Rattle.demands.specs.Calls as call
 use Rattle.demands.specs.Calls.{Side, active, passive, Arrival, Call, Answer, Outcome, FromWire, OnWire}
 use Rattle.demands.specs.Cases.{Heeded, Counted}
 use Rattle.demands.specs.Said as said
-use Rattle.demands.specs.Said.{Said, LossReply}
-use Rattle.demands.proofs.Promised.{promises}
+use Rattle.demands.specs.Judged as judging
+use Rattle.demands.specs.Handling as handling
+use Rattle.demands.specs.Made as made
+use Rattle.demands.specs.Taken.{LossReply}
+use Rattle.demands.specs.Said.{Said}
+use Rattle.promised.proofs.Promised.{promises}
 use Rattle.lossruns.specs.Runs.{Each, NoSetting, CountedFrom, Event, reply, received, sent, other, Neither, Is, is-reply, is-received, is-sent, is-other, Events, none, next}
 use Rattle.lossruns.specs.Meets.{Whole}
 use Rattle.lossruns.proofs.Same.{is-to}
@@ -54,45 +58,45 @@ told-lossy (answer.Measured near far) n = refl
 
 reply-lossy : (s : State) (a : Arrival) (o : Outcome) → FromWire a → LossReply s a → Said s (call.frame a) o → lossy (o .answer) ≡ true
 reply-lossy s a o u l p =
-    let r = said.reading s a in
+    let r = made.reading s a in
     let e = promises .agrees s (call.frame a) o _ u p (reply-said s a l) in
     ap (λ (x : Outcome). lossy (x .answer)) e
     ∙ told-lossy (afterReading (s .session) r .answer) (λ q. refuses-2 (s .session) r .0 q (l .own .oam .heeded .well .session))
 
 lossy-reply : {s : State} {a : Arrival} {o : Outcome} → Said s (call.frame a) o → lossy (o .answer) ≡ true → LossReply s a
-lossy-reply (said.frame-2 a v) e = absurd (false≢true e)
-lossy-reply (said.frame-1 a v h) e = absurd (false≢true e)
-lossy-reply (said.frame-6-receive a v h g) e = absurd (false≢true e)
-lossy-reply (said.frame-6-transmit a v h g) e = absurd (false≢true e)
-lossy-reply (said.rule-1-received a h k d) e = absurd (false≢true e)
-lossy-reply (said.rule-1-sent a h k d) e = absurd (false≢true e)
-lossy-reply (said.rule-2-D1 a h d k) e = absurd (false≢true e)
-lossy-reply (said.rule-2-above a o k) e = absurd (false≢true e)
-lossy-reply (said.rule-2-passive a o d k) e = absurd (false≢true e)
-lossy-reply (said.rule-3-ccm a o d k g) e = absurd (false≢true e)
-lossy-reply (said.rule-3-other a o d k g) e = absurd (false≢true e)
-lossy-reply (said.rule-4-D3 a l h) e = absurd (false≢true e)
-lossy-reply (said.rule-4-D4 a l d) e = absurd (false≢true e)
-lossy-reply (said.rule-4-D5 a least l h o d) e = absurd (false≢true e)
-lossy-reply (said.rule-4-D6 a least l h o d x) e = absurd (false≢true e)
-lossy-reply (said.rule-4-D7-ccm a l q o d) e = absurd (false≢true e)
-lossy-reply (said.rule-4-D7-alarm a l q o d) e = absurd (false≢true e)
-lossy-reply (said.rule-4-D7-delay a l d) e = absurd (false≢true e)
-lossy-reply (said.rule-5-mismerge a k m) e = absurd (false≢true e)
-lossy-reply (said.rule-5-mep a k m u) e = absurd (false≢true e)
-lossy-reply (said.rule-5-peer a k p d) e = absurd (false≢true e)
-lossy-reply (said.rule-5-period a k p d) e = absurd (false≢true e)
-lossy-reply (said.rule-5-ais a l q d o) e = absurd (false≢true e)
-lossy-reply (said.rule-5-lck a l q d o) e = absurd (false≢true e)
-lossy-reply (said.rule-6 a octets l q r h) e = absurd (false≢true e)
-lossy-reply (said.frame-3 a octets l q r h) e = absurd (false≢true e)
-lossy-reply (said.rule-7-first a l k) e = l
-lossy-reply (said.rule-7-later a l k m) e = l
-lossy-reply (said.frame-5 a l k m) e = l
-lossy-reply (said.rule-8-two-way a g p h) e = absurd (false≢true e)
-lossy-reply (said.rule-8-all-ways a g p x y z) e = absurd (false≢true e)
-lossy-reply (said.rule-8-D8-two-way a g p h) e = absurd (false≢true e)
-lossy-reply (said.rule-8-D8-all-ways a g p h) e = absurd (false≢true e)
+lossy-reply (said.by-rules-1-to-4 (judging.frame-2 a v)) e = absurd (false≢true e)
+lossy-reply (said.by-rules-1-to-4 (judging.frame-1 a v h)) e = absurd (false≢true e)
+lossy-reply (said.by-rules-1-to-4 (judging.frame-6-receive a v h g)) e = absurd (false≢true e)
+lossy-reply (said.by-rules-1-to-4 (judging.frame-6-transmit a v h g)) e = absurd (false≢true e)
+lossy-reply (said.by-rules-1-to-4 (judging.rule-1-received a h k d)) e = absurd (false≢true e)
+lossy-reply (said.by-rules-1-to-4 (judging.rule-1-sent a h k d)) e = absurd (false≢true e)
+lossy-reply (said.by-rules-1-to-4 (judging.rule-2-D1 a h d k)) e = absurd (false≢true e)
+lossy-reply (said.by-rules-1-to-4 (judging.rule-2-above a o k)) e = absurd (false≢true e)
+lossy-reply (said.by-rules-1-to-4 (judging.rule-2-passive a o d k)) e = absurd (false≢true e)
+lossy-reply (said.by-rules-1-to-4 (judging.rule-3-ccm a o d k g)) e = absurd (false≢true e)
+lossy-reply (said.by-rules-1-to-4 (judging.rule-3-other a o d k g)) e = absurd (false≢true e)
+lossy-reply (said.by-rules-1-to-4 (judging.rule-4-D3 a l h)) e = absurd (false≢true e)
+lossy-reply (said.by-rules-1-to-4 (judging.rule-4-D4 a l d)) e = absurd (false≢true e)
+lossy-reply (said.by-rules-1-to-4 (judging.rule-4-D5 a least l h o d)) e = absurd (false≢true e)
+lossy-reply (said.by-rules-1-to-4 (judging.rule-4-D6 a least l h o d x)) e = absurd (false≢true e)
+lossy-reply (said.by-rules-1-to-4 (judging.rule-4-D7-ccm a l q o d)) e = absurd (false≢true e)
+lossy-reply (said.by-rules-1-to-4 (judging.rule-4-D7-alarm a l q o d)) e = absurd (false≢true e)
+lossy-reply (said.by-rules-1-to-4 (judging.rule-4-D7-delay a l d)) e = absurd (false≢true e)
+lossy-reply (said.by-rules-5-to-8 (handling.rule-5-mismerge a k m)) e = absurd (false≢true e)
+lossy-reply (said.by-rules-5-to-8 (handling.rule-5-mep a k m u)) e = absurd (false≢true e)
+lossy-reply (said.by-rules-5-to-8 (handling.rule-5-peer a k p d)) e = absurd (false≢true e)
+lossy-reply (said.by-rules-5-to-8 (handling.rule-5-period a k p d)) e = absurd (false≢true e)
+lossy-reply (said.by-rules-5-to-8 (handling.rule-5-ais a l q d o)) e = absurd (false≢true e)
+lossy-reply (said.by-rules-5-to-8 (handling.rule-5-lck a l q d o)) e = absurd (false≢true e)
+lossy-reply (said.by-rules-5-to-8 (handling.rule-6 a octets l q r h)) e = absurd (false≢true e)
+lossy-reply (said.by-rules-5-to-8 (handling.frame-3 a octets l q r h)) e = absurd (false≢true e)
+lossy-reply (said.by-rules-5-to-8 (handling.rule-7-first a l k)) e = l
+lossy-reply (said.by-rules-5-to-8 (handling.rule-7-later a l k m)) e = l
+lossy-reply (said.by-rules-5-to-8 (handling.frame-5 a l k m)) e = l
+lossy-reply (said.by-rules-5-to-8 (handling.rule-8-two-way a g p h)) e = absurd (false≢true e)
+lossy-reply (said.by-rules-5-to-8 (handling.rule-8-all-ways a g p x y z)) e = absurd (false≢true e)
+lossy-reply (said.by-rules-5-to-8 (handling.rule-8-D8-two-way a g p h)) e = absurd (false≢true e)
+lossy-reply (said.by-rules-5-to-8 (handling.rule-8-D8-all-ways a g p h)) e = absurd (false≢true e)
 
 -- ── which frame is counted ──
 

@@ -6,14 +6,14 @@ use lib.IntN.{ℤ}
 use lib.ListN.{length, take, replicate}
 use Rattle.settings.specs.Settings.{Settings}
 use Rattle.settings.specs.Valid.{Valid}
-use Rattle.loss.specs.Session.{Side, near, totalOf, clearedSession}
+use Rattle.session.specs.Session.{Side, near, totalOf, clearedSession}
 use Rattle.account.specs.Account.{Truth, Grows, Sound, total}
 use Rattle.account.specs.Demand3.{Shows}
 use Rattle.state.specs.State.{State}
 use Rattle.state.specs.WellFormed.{WellFormed}
 use Rattle.demands.specs.Calls.{Arrival, Call, new-setting, frame, clear, Answer, leaves, OnWire, Box}
 use Rattle.demands.specs.Calls as told
-use Rattle.demands.specs.Said.{LossReply}
+use Rattle.demands.specs.Taken.{LossReply}
 use Rattle.lossruns.specs.Runs.{run, answers, Each, NoSetting, Event, Events, receivedIn, sentIn}
 use Rattle.lossruns.specs.Own.{Neighbours, PeerSent, beside, FewCounted}
 use Rattle.lossruns.specs.Replies.{most, oursAt, repliesIn, accepted, toReplies, refused, loss, seen, accounted, SinceClear}

@@ -4,4 +4,3 @@ pub mod Own
 pub mod Demand3
 pub mod Meets
 pub mod Both
-pub mod Wrong

@@ -2,7 +2,7 @@
 use Prim.Native.Nat.{ℕ, _-_, _%_, _^_, _<_}
 use mathlib.Core.Path.{_≡_}
 use mathlib.Core.List.{List, [], _∷_}
-use Rattle.loss.specs.declared.Readings.{Readings}
+use Rattle.session.specs.declared.Readings.{Readings}
 use Rattle.account.specs.Account.{Truth}
 
 -- neighbours of a list

@@ -10,7 +10,7 @@ use Rattle.whole.specs.Lists.{laid}
 use Rattle.whole.proofs.Pieces.{first, more, stored}
 use Rattle.octets.specs.Numbers.{inOctets, octetsLowestFirst, bigEndian}
 use Rattle.octets.proofs.Laws.{length-octets, big-next}
-use Rattle.delay.specs.declared.Stamp.{Stamp}
+use Rattle.stamps.specs.declared.Stamp.{Stamp}
 use Rattle.message.specs.Messages.{count, stampOctets, afterDestination}
 
 -- ── how long they are ──

@@ -1,3 +1,4 @@
 pub mod Laid
 pub mod Numbers
+pub mod Written
 pub mod One

@@ -4,13 +4,9 @@ use mathlib.Core.Path.{_≡_, sym, _∙_}
 use denote.Ref.{now}
 use Rattle.message.proofs.parts.write_stamp.Reads as write-stamp
 use Rattle.message.proofs.parts.write_head.Reads as write-head
-use Rattle.message.proofs.parts.tell.Reads as tell
 
 pub write-stamp-one : (κs : _) (a : _) (r r′ : _) (s s′ : _) → write-stamp.Post κs a r s → write-stamp.Post κs a r′ s′ → now (s .0) ≡ now (s′ .0)
 write-stamp-one κs a r r′ s s′ p q = p ∙ sym q
 
 pub write-head-one : (κs : _) (a : _) (r r′ : _) (s s′ : _) → write-head.Post κs a r s → write-head.Post κs a r′ s′ → now (s .0) ≡ now (s′ .0)
 write-head-one κs a r r′ s s′ p q = p ∙ sym q
-
-pub tell-one : (κs : _) (a : _) (r r′ : _) (s s′ : _) → tell.Post κs a r s → tell.Post κs a r′ s′ → r ≡ r′
-tell-one κs a r r′ s s′ p q = p ∙ sym q

@@ -4,12 +4,11 @@ ghost use Prim.Native.Nat.{_+_, _≤_};
 ghost use lib.ListN.{length};
 ghost use Rattle.whole.specs.Lists.{laid};
 ghost use Rattle.frame.specs.Head.{behindHead};
-ghost use Rattle.message.specs.Buffer.{told};
 ghost use Rattle.message.specs.Messages.{stampOctets, afterDestination};
-use delay::Stamp;
 use frame::head::HEAD_LENGTH;
 use octets::numbers::write_big;
 use octets::parts::copy_octets;
+use stamps::Stamp;
 
 // What writing a message is answered.
 pub enum Written {
@@ -46,20 +45,4 @@ pub fn write_head(into: &mut [u8], source: &[u8], first: u8, opcode: u8, flags: 
     into[HEAD_LENGTH + 1] = opcode;
     into[HEAD_LENGTH + 2] = flags;
     into[HEAD_LENGTH + 3] = offset;
-}
-
-// An answer in the paper's numbers.
-pub fn tell(answer: Written) -> WrittenTold
-    ensures { λ r. ⌜ r ≡ told answer ⌝ }
-{
-    match answer {
-        Written::NoRoom => WrittenTold {
-            refusal: 3,
-            length: 0,
-        },
-        Written::Octets(n) => WrittenTold {
-            refusal: 0,
-            length: n,
-        },
-    }
 }

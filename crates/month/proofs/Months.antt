@@ -14,18 +14,19 @@ use Rattle.whole.specs.Tests.{choose}
 use Rattle.whole.proofs.Tests.{known}
 use Rattle.clock.specs.Run.{after}
 use Rattle.clock.proofs.Runs.{after-append}
-use Rattle.loss.specs.declared.Readings.{Readings}
-use Rattle.loss.specs.declared.LossSession.{LossSession}
+use Rattle.session.specs.declared.Readings.{Readings}
+use Rattle.session.specs.declared.LossSession.{LossSession}
 use Rattle.loss.specs.declared.Updated.{Updated}
-use Rattle.loss.specs.Session.{Side, near, far, totalOf, clearedSession, WellFormed, wellFormed, afterReading}
+use Rattle.session.specs.Session.{Side, near, far, totalOf, clearedSession, WellFormed, wellFormed}
+use Rattle.loss.specs.Reading.{afterReading}
 use Rattle.loss.specs.Told.{told, numbersOf}
 use Rattle.loss.proofs.Laws.{sessions}
 use Rattle.loss.proofs.Numbers.{told-numbers}
 use Rattle.decimal.specs.Decimal.{decimal, digitsOf, leading}
 use Rattle.lossrecord.specs.declared.LossLine.{LossLine}
 use Rattle.lossrecord.specs.Line.{KeepsRules, lineRecord}
-use Rattle.lines.specs.Sheet.{headerText, lineText, Prints, nothing-left, good-record, textOf, sheetOf, joined}
-use Rattle.lines.proofs.Sheets.{sheets}
+use Rattle.sheettext.specs.Sheet.{headerText, lineText, Prints, nothing-left, good-record, textOf, sheetOf, joined}
+use Rattle.sheettext.proofs.Sheets.{sheets}
 use Rattle.account.specs.Account.{Truth, GoesOn, Sound, newest, total}
 use Rattle.account.specs.Demand3.{leaves, Counts, truthOf, shown, Steady}
 use Rattle.account.proofs.Meets.{meets}

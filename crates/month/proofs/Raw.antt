@@ -10,9 +10,9 @@ use Rattle.whole.specs.Lists.{part}
 use Rattle.whole.proofs.Lists.{part-here}
 use Rattle.octets.specs.Numbers.{littleEndian, number, inOctets}
 use Rattle.octets.proofs.Laws.{length-octets, number-back, number-here}
-use Rattle.loss.specs.declared.Readings.{Readings}
-use Rattle.loss.specs.Session.{Side, near, far, sentOf, receivedOf}
-use Rattle.lines.specs.Sheet.{joined}
+use Rattle.session.specs.declared.Readings.{Readings}
+use Rattle.session.specs.Session.{Side, near, far, sentOf, receivedOf}
+use Rattle.sheettext.specs.Sheet.{joined}
 use Rattle.account.specs.Demand3.{Counts, shown, Small}
 use Rattle.replies.specs.Replies.{readingsIn, repliesIn, replies}
 use Rattle.month.specs.Month.{rawReply, rawReplies}

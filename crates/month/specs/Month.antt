@@ -5,11 +5,12 @@ use mathlib.Core.Path.{_≡_}
 use mathlib.Core.List.{List, [], _∷_, _++_, map}
 use lib.ListN.{length}
 use Rattle.octets.specs.Numbers.{littleEndian, inOctets}
-use Rattle.loss.specs.declared.Readings.{Readings}
-use Rattle.loss.specs.Session.{near, far, readings, clearedSession, afterReading}
+use Rattle.session.specs.declared.Readings.{Readings}
+use Rattle.session.specs.Session.{near, far, readings, clearedSession}
+use Rattle.loss.specs.Reading.{afterReading}
 use Rattle.lossrecord.specs.declared.LossLine.{LossLine}
 use Rattle.lossrecord.specs.Line.{lineRecord}
-use Rattle.lines.specs.Sheet.{headerText, lineText, sheetOf, joined}
+use Rattle.sheettext.specs.Sheet.{headerText, lineText, sheetOf, joined}
 use Rattle.account.specs.Account.{total}
 use Rattle.account.specs.Demand3.{leaves, Counts, truthOf, shown, Steady, Small}
 use Rattle.replies.specs.Replies.{replies, Worked, stopped, worked}

@@ -8,15 +8,16 @@ use Rattle.settings.specs.Settings.{Settings}
 use Rattle.settings.specs.Valid.{Valid}
 use Rattle.loss.proofs.Laws.{sessions}
 use Rattle.card.proofs.Lends.{lends}
-use Rattle.frame.proofs.Numbers.{reader-numbers}
+use Rattle.reader.proofs.Numbers.{reader-numbers}
 use Rattle.settingsrecord.proofs.Records.{settings-records}
 use Rattle.lossrecord.proofs.Calls.{loss-records}
 use Rattle.state.specs.State.{State}
 use Rattle.state.specs.WellFormed.{WellFormed}
 use Rattle.demands.specs.Calls.{Call, new-setting, frame, tick, clear, send-LMM, send-DMM, conditions, Answer, refused, Outcome, leaves, OnWire, Box}
 use Rattle.demands.specs.Ours.{Follows}
-use Rattle.demands.specs.Promised.{Refusal, frame-2, frame-1, frame-6, frame-3, frame-5, tick-2, tick-3, clear-2, lmm-2, lmm-3, dmm-2, dmm-6, dmm-3, setting-4, conditions-2, handed, Promised}
-use Rattle.demands.proofs.Promised.{promises}
+use Rattle.promised.specs.Refusals.{Refusal, frame-2, frame-1, frame-6, frame-3, frame-5, tick-2, tick-3, clear-2, lmm-2, lmm-3, dmm-2, dmm-6, dmm-3, setting-4, conditions-2, handed}
+use Rattle.promised.specs.Promised.{Promised}
+use Rattle.promised.proofs.Promised.{promises}
 use Rattle.lossruns.specs.Runs.{run, Each, NoSetting}
 use Rattle.lossruns.proofs.Meets.{meets}
 use Rattle.timing.specs.Runs.{since}

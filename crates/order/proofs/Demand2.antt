@@ -8,9 +8,9 @@ use Rattle.whole.specs.Lists.{part, laid}
 use Rattle.whole.proofs.Lists.{laid-back}
 use Rattle.settings.specs.Settings.{Settings, slots}
 use Rattle.settings.specs.Valid.{Valid}
-use Rattle.settingsrecord.specs.Body.{Shaped}
-use Rattle.delay.specs.declared.Stamp.{Stamp}
-use Rattle.delay.specs.Stamps.{Wire}
+use Rattle.settingsbody.specs.Body.{Shaped}
+use Rattle.stamps.specs.declared.Stamp.{Stamp}
+use Rattle.stamps.specs.Stamps.{Wire}
 use Rattle.state.specs.State.{State}
 use Rattle.state.specs.Changed.{lowered}
 use Rattle.state.specs.WellFormed.{WellFormed}
@@ -23,13 +23,18 @@ use Rattle.readback.proofs.Replies.{replies-back}
 use Rattle.frame.specs.Head.{flagsOf, startOf}
 use Rattle.incoming.specs.Message.{messageOf, judgedOf}
 use Rattle.demands.specs.Calls.{Arrival, Call, new-setting, frame, tick, send-LMM, send-DMM, Answer, refused, dropped, passed, taken, written, loss, delay, delays, done, standing, Outcome, OnWire, Box}
-use Rattle.demands.specs.Cases.{pdu, opcode, OwnLevel, Sound, Flag, on, off, Stands}
-use Rattle.demands.specs.Said.{Said, ccmValues, ccmFrom, lmmFrom, dmmFrom, tick-2, tick-3, tick-lowers, tick-sends, lmm-2, lmm-3, lmm-sends, dmm-2, dmm-6, dmm-3, dmm-sends, rule-6, Reply, lbr, lmr, dmr}
+use Rattle.demands.specs.Cases.{pdu, opcode, OwnLevel}
+use Rattle.demands.specs.Drops.{Sound}
+use Rattle.demands.specs.Standing.{Flag, on, off, Stands}
+use Rattle.demands.specs.Made.{ccmValues, ccmFrom, lmmFrom, dmmFrom, Reply, lbr, lmr, dmr}
+use Rattle.demands.specs.Handling.{rule-6}
+use Rattle.demands.specs.Called.{tick-2, tick-3, tick-lowers, tick-sends, lmm-2, lmm-3, lmm-sends, dmm-2, dmm-6, dmm-3, dmm-sends}
+use Rattle.demands.specs.Said.{Said, by-call, by-rules-5-to-8}
 use Rattle.demands.specs.Ours.{Follows}
 use Rattle.demands.proofs.Rows.{row-known, row-least}
 use Rattle.demands.proofs.Messages.{judged, uncut}
 use Rattle.demands.proofs.Codes as code
-use Rattle.demands.proofs.Promised.{promises}
+use Rattle.promised.proofs.Promised.{promises}
 use Rattle.lossruns.specs.Runs.{Each, NoSetting}
 use Rattle.lossruns.proofs.Meets.{meets}
 use Rattle.lossruns.proofs.Whole.{whole}
@@ -81,10 +86,10 @@ module _ (s : State) (m : InMemory s) where
 
   ccm-of : {b : List ℕ} {o : Outcome} {n : ℕ} → Said s (tick b) o → o .answer ≡ written n → (n ≡ 89) × CcmSent s (o .buffer)
   unfolding length-of
-  ccm-of (tick-2 b h) e = absurd (omega (arith, ap length-of e))
-  ccm-of (tick-3 b w x h) e = absurd (omega (arith, ap length-of e))
-  ccm-of (tick-lowers b w x) e = absurd (omega (arith, ap length-of e))
-  ccm-of (tick-sends b rdi w x h flag) e =
+  ccm-of (by-call (tick-2 b h)) e = absurd (omega (arith, ap length-of e))
+  ccm-of (by-call (tick-3 b w x h)) e = absurd (omega (arith, ap length-of e))
+  ccm-of (by-call (tick-lowers b w x)) e = absurd (omega (arith, ap length-of e))
+  ccm-of (by-call (tick-sends b rdi w x h flag)) e =
       let long = ccm-long (s .settings .own) (s .settings .meg) (ccmValues s rdi) (m .settings .own) (m .settings .meg) in
       let back = sent-back .ccm (s .settings .own) (s .settings .meg) (ccmValues s rdi) (given rdi w (small flag)) in
       (omega (arith, ap length-of e), record { rdi = rdi; says = flag; back = rw (in-front 89 (ccmFrom s rdi) b long h) back })
@@ -92,9 +97,9 @@ module _ (s : State) (m : InMemory s) where
   lmm-of : {b : List ℕ} {o : Outcome} {n : ℕ} → Said s (send-LMM b) o → o .answer ≡ written n
       → (n ≡ 31) × LmmBack (s .settings .losspeer) (s .settings .own) (s .settings .level) (s .sent) (part 0 31 (o .buffer))
   unfolding length-of
-  lmm-of (lmm-2 b h) e = absurd (omega (arith, ap length-of e))
-  lmm-of (lmm-3 b w h) e = absurd (omega (arith, ap length-of e))
-  lmm-of (lmm-sends b w h) e =
+  lmm-of (by-call (lmm-2 b h)) e = absurd (omega (arith, ap length-of e))
+  lmm-of (by-call (lmm-3 b w h)) e = absurd (omega (arith, ap length-of e))
+  lmm-of (by-call (lmm-sends b w h)) e =
       let v = valid w in
       let long = lmm-long (s .settings .losspeer) (s .settings .own) (s .settings .level) (s .sent) (m .settings .losspeer) (m .settings .own) in
       let back = sent-back .lmm (s .settings .losspeer) (s .settings .own) (s .settings .level) (s .sent) (m .settings .losspeer) (m .settings .own) (omega (arith, v .level)) (m .sent) in
@@ -103,10 +108,10 @@ module _ (s : State) (m : InMemory s) where
   dmm-of : {t : Stamp} {b : List ℕ} {o : Outcome} {n : ℕ} → Wire t → Said s (send-DMM t b) o → o .answer ≡ written n
       → (n ≡ 51) × DmmBack (s .settings .losspeer) (s .settings .own) (s .settings .level) t (part 0 51 (o .buffer))
   unfolding length-of
-  dmm-of wire (dmm-2 t b h) e = absurd (omega (arith, ap length-of e))
-  dmm-of wire (dmm-6 t b w h) e = absurd (omega (arith, ap length-of e))
-  dmm-of wire (dmm-3 t b w g h) e = absurd (omega (arith, ap length-of e))
-  dmm-of wire (dmm-sends t b w g h) e =
+  dmm-of wire (by-call (dmm-2 t b h)) e = absurd (omega (arith, ap length-of e))
+  dmm-of wire (by-call (dmm-6 t b w h)) e = absurd (omega (arith, ap length-of e))
+  dmm-of wire (by-call (dmm-3 t b w g h)) e = absurd (omega (arith, ap length-of e))
+  dmm-of wire (by-call (dmm-sends t b w g h)) e =
       let v = valid w in
       let long = dmm-long (s .settings .losspeer) (s .settings .own) (s .settings .level) t (m .settings .losspeer) (m .settings .own) in
       let back = sent-back .dmm (s .settings .losspeer) (s .settings .own) (s .settings .level) t (m .settings .losspeer) (m .settings .own) (omega (arith, v .level)) wire in
@@ -147,7 +152,7 @@ module _ (B : Box) (f : Follows B) where
   reply : (s : State) (a : Arrival) (octets : List ℕ) → InMemory s → OnWire (frame a) → OwnLevel s a → Sound s a → Reply s a octets → length octets ≤ length (a .buffer)
       → (B s (frame a) .answer ≡ written (length octets)) × ReplyBack s a (part 0 (length octets) (B s (frame a) .buffer))
   reply s a octets m wire w q r h =
-      let l = f .follows s (frame a) _ wire (rule-6 a octets w q r h) in
+      let l = f .follows s (frame a) _ wire (by-rules-5-to-8 (rule-6 a octets w q r h)) in
       let there = in-front (length octets) octets (a .buffer) refl h in
       rw l (refl, rw there (reply-of s a octets m wire w q r))
 

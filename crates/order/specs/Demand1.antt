@@ -6,16 +6,16 @@ use mathlib.Core.List.{List}
 use mathlib.Core.Logic.{_↔_}
 use Rattle.settings.specs.Settings.{Settings}
 use Rattle.settings.specs.Valid.{Valid}
-use Rattle.loss.specs.Session.{Sessions}
+use Rattle.loss.specs.Reading.{Sessions}
 use Rattle.card.specs.Lent.{Lends}
-use Rattle.frame.specs.Told.{ReaderNumbers}
+use Rattle.reader.specs.Numbers.{ReaderNumbers}
 use Rattle.settingsrecord.specs.SettingsRecord.{SettingsRecords}
 use Rattle.lossrecord.specs.Calls.{LossRecords}
 use Rattle.state.specs.State.{State}
 use Rattle.state.specs.WellFormed.{WellFormed}
 use Rattle.demands.specs.Calls.{Call, new-setting, refused, Outcome, leaves, OnWire, Box}
-use Rattle.demands.specs.Cases.{AllZero}
-use Rattle.demands.specs.Promised.{Refusal, handed}
+use Rattle.demands.specs.Started.{AllZero}
+use Rattle.promised.specs.Refusals.{Refusal, handed}
 use Rattle.lossruns.specs.Runs.{Each, NoSetting}
 use Rattle.timing.specs.Runs.{since}
 

@@ -7,16 +7,19 @@ use lib.ListN.{length}
 use Rattle.whole.specs.Lists.{part}
 use Rattle.settings.specs.Settings.{Settings, slots}
 use Rattle.settings.specs.Valid.{Valid}
-use Rattle.settingsrecord.specs.Body.{Shaped}
-use Rattle.delay.specs.declared.Stamp.{Stamp}
-use Rattle.delay.specs.Stamps.{Wire}
+use Rattle.settingsbody.specs.Body.{Shaped}
+use Rattle.stamps.specs.declared.Stamp.{Stamp}
+use Rattle.stamps.specs.Stamps.{Wire}
 use Rattle.state.specs.State.{State}
 use Rattle.state.specs.Changed.{lowered}
 use Rattle.opcodes.specs.declared.Handler.the-variants.{ReaderOnly, LossReply, DelayReply}
-use Rattle.fields.specs.Fixed.{transactionOf, lossOf, delayOf}
+use Rattle.fields.specs.Fixed.{transactionOf}
+use Rattle.measures.specs.Measures.{lossOf, delayOf}
 use Rattle.demands.specs.Calls.{Arrival, Call, frame, tick, send-LMM, send-DMM, written, OnWire, Box}
-use Rattle.demands.specs.Cases.{opcode, OwnLevel, Sound, Flag, Stands}
-use Rattle.demands.specs.Said.{ccmValues, Reply}
+use Rattle.demands.specs.Cases.{opcode, OwnLevel}
+use Rattle.demands.specs.Drops.{Sound}
+use Rattle.demands.specs.Standing.{Flag, Stands}
+use Rattle.demands.specs.Made.{ccmValues, Reply}
 use Rattle.demands.specs.Ours.{Follows}
 use Rattle.readback.specs.Sent.{CcmBack, LmmBack, DmmBack}
 use Rattle.readback.specs.Replies.{Answers}

@@ -1,4 +1,3 @@
 pub mod Demand1
-pub mod Records
 pub mod Demand2
 pub mod Order

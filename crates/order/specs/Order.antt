@@ -3,8 +3,9 @@ use Rattle.demands.specs.Calls.{Box}
 use Rattle.demands.specs.Ours.{ours, Follows}
 use Rattle.lossruns.specs.Demand3.{Demand3}
 use Rattle.timing.specs.Time.{Time}
+use Rattle.readersaid.specs.Reader.{ReaderFollows}
 use Rattle.order.specs.Demand1.{Demand1, Beside}
-use Rattle.order.specs.Records.{RecordsFollow}
+use Rattle.recordsaid.specs.Records.{RecordsFollow}
 use Rattle.order.specs.Demand2.{Demand2}
 
 pub record Order (B : Box) : Type 0 where
@@ -20,3 +21,4 @@ pub record Met : Type 0 where
   pub our-box : Order ours
   pub beside : Beside
   pub records : RecordsFollow
+  pub reader : ReaderFollows

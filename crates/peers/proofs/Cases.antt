@@ -10,7 +10,7 @@ use Rattle.whole.specs.Lists.{part, same, placeOf}
 use Rattle.octets.specs.Numbers.{number, bigEndian}
 use Rattle.bits.specs.Fields.{mepId}
 use Rattle.settings.specs.Settings.{Settings}
-use Rattle.fields.specs.Fixed.{ccmIn}
+use Rattle.ccmfields.specs.Ccm.{ccmIn}
 use Rattle.signals.specs.declared.Signal.the-variants as signal
 use Rattle.peers.specs.Peers.{usedPeers, slotOf, ccmSignal}
 

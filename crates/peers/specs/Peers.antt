@@ -8,7 +8,7 @@ use lib.ListN.{length, take}
 use Rattle.whole.specs.Tests.{choose}
 use Rattle.whole.specs.Lists.{same, placeOf}
 use Rattle.settings.specs.Settings.{Settings}
-use Rattle.fields.specs.Fixed.{ccmIn, megIn}
+use Rattle.ccmfields.specs.Ccm.{ccmIn, megIn}
 use Rattle.signals.specs.declared.Signal.{Signal}
 use Rattle.signals.specs.declared.Signal.the-variants.{Mismerge, UnexpectedMep, Heard, UnexpectedPeriod}
 

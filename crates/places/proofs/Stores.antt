@@ -6,7 +6,7 @@ use native.Mathlib.Omega.{arith}
 use lib.IntN.{ℤ}
 use lib.ListN.{length, set}
 use Rattle.whole.specs.Lists.{onFirst}
-use Rattle.loss.specs.declared.LossSession.{LossSession}
+use Rattle.session.specs.declared.LossSession.{LossSession}
 use Rattle.state.specs.State.{State, viewOf}
 use Rattle.state.specs.Changed.{Word, mismerge, unexpected-level, unexpected-mep, unexpected-period, ais, lck, next, sent, received, placeOf, put, withSession, lowered}
 use Rattle.places.specs.Stored.{Stores}

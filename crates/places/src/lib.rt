@@ -3,7 +3,7 @@ ghost use mathlib.Core.Path.{_≡_};
 ghost use Rattle.state.specs.State.{lying};
 ghost use Rattle.state.specs.Changed.{withSession};
 ghost use Rattle.places.specs.Stored.{Whole};
-use loss::LossSession;
+use session::LossSession;
 use settings::PEERS;
 use state::FAR;
 use state::INTERVALS;

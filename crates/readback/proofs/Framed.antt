@@ -14,15 +14,15 @@ use Rattle.octets.specs.Numbers.{inOctets, octetsLowestFirst, bigEndian}
 use Rattle.opcodes.specs.Opcodes.{ruleOf, known}
 use Rattle.tlvs.specs.declared.Place.{Place}
 use Rattle.tlvs.specs.declared.Place.the-variants.{End}
-use Rattle.frame.specs.declared.reader.TlvAnswer.{TlvAnswer}
-use Rattle.frame.specs.declared.reader.TlvAnswer.the-variants.{NoSuch}
+use Rattle.reasons.specs.declared.TlvAnswer.{TlvAnswer}
+use Rattle.reasons.specs.declared.TlvAnswer.the-variants.{NoSuch}
 use Rattle.frame.specs.Head.{destinationOf, sourceOf, pduOf, levelOf, versionOf, opcodeOf, flagsOf, offsetOf, startOf}
 use Rattle.tlvs.specs.Tlvs.{walkFrom}
-use Rattle.frame.specs.Reader.{isCut, whole, inFrame, answerAt, answerOf}
-use Rattle.frame.proofs.Chain.{through}
+use Rattle.reader.specs.Reader.{isCut, whole, inFrame, answerAt, answerOf}
+use Rattle.reader.proofs.Chain.{through}
 use Rattle.tlvs.proofs.Steps.{ended}
-use Rattle.incoming.specs.declared.MessageAnswer.{MessageAnswer}
-use Rattle.incoming.specs.declared.MessageAnswer.the-variants.{Message}
+use Rattle.kinds.specs.declared.MessageAnswer.{MessageAnswer}
+use Rattle.kinds.specs.declared.MessageAnswer.the-variants.{Message}
 use Rattle.incoming.specs.Good.{Headed, Good}
 use Rattle.incoming.specs.Message.{periodCode, codeGood, judgedOf, unlessBad, messageOf}
 use Rattle.incoming.specs.Told.{goodOpcode}

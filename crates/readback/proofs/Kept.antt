@@ -12,12 +12,12 @@ use Rattle.whole.proofs.Apart.{part-before, part-after, drop-after}
 use Rattle.whole.proofs.Lists.{length-laid, laid-back, laid-others, length-part, getD-part, part-drop}
 use Rattle.octets.specs.Numbers.{number, bigEndian}
 use Rattle.opcodes.specs.Opcodes.{ruleOf, known}
-use Rattle.frame.specs.declared.reader.TlvAnswer.{TlvAnswer}
-use Rattle.frame.specs.declared.reader.TlvAnswer.the-variants as tlv
+use Rattle.reasons.specs.declared.TlvAnswer.{TlvAnswer}
+use Rattle.reasons.specs.declared.TlvAnswer.the-variants as tlv
 use Rattle.frame.specs.Head.{destinationOf, sourceOf, etherTypeOf, pduOf, levelOf, versionOf, opcodeOf, flagsOf, offsetOf, startOf}
-use Rattle.frame.specs.Reader.{answerOf}
-use Rattle.incoming.specs.declared.MessageAnswer.{MessageAnswer}
-use Rattle.incoming.specs.declared.MessageAnswer.the-variants.{Message}
+use Rattle.reader.specs.Reader.{answerOf}
+use Rattle.kinds.specs.declared.MessageAnswer.{MessageAnswer}
+use Rattle.kinds.specs.declared.MessageAnswer.the-variants.{Message}
 use Rattle.incoming.specs.Good.{Headed, Good, isBad, tlvsOf}
 use Rattle.incoming.specs.Message.{periodCode, codeGood, judgedOf, unlessBad, messageOf}
 use Rattle.incoming.specs.Told.{goodOpcode}

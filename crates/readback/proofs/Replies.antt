@@ -12,20 +12,22 @@ use Rattle.whole.specs.Lists.{part, laid}
 use Rattle.whole.proofs.Apart.{part-before, part-after, drop-after, part-within}
 use Rattle.whole.proofs.Lists.{part-drop, part-all}
 use Rattle.octets.specs.Numbers.{number, bigEndian}
-use Rattle.delay.specs.declared.Stamp.{Stamp}
-use Rattle.delay.specs.Stamps.{Wire}
+use Rattle.stamps.specs.declared.Stamp.{Stamp}
+use Rattle.stamps.specs.Stamps.{Wire}
 use Rattle.opcodes.specs.declared.Handler.{Handler}
 use Rattle.opcodes.specs.declared.Handler.the-variants.{ReaderOnly, Loopback, LossReply, LossRequest, DelayReply, DelayRequest}
 use Rattle.opcodes.specs.Opcodes.{ruleOf}
-use Rattle.frame.specs.Head.{pduOf, opcodeOf}
-use Rattle.incoming.specs.declared.MessageAnswer.the-variants.{Message}
-use Rattle.incoming.specs.declared.MessageTold.{MessageTold}
+use Rattle.frame.specs.Head.{pduOf, opcodeOf, word}
+use Rattle.kinds.specs.declared.MessageAnswer.the-variants.{Message}
+use Rattle.kinds.specs.declared.MessageTold.{MessageTold}
 use Rattle.incoming.specs.Good.{Good}
 use Rattle.incoming.specs.Message.{messageOf}
-use Rattle.incoming.specs.Told.{opcodeFor, told, goodOpcode}
+use Rattle.kinds.specs.Told.{opcodeFor, told}
+use Rattle.incoming.specs.Told.{goodOpcode}
 use Rattle.incoming.proofs.Goods.{good-frames}
 use Rattle.incoming.proofs.Numbers.{agree, only}
-use Rattle.fields.specs.Fixed.{word, transactionOf, lossIn, noLoss, lossOf, delayIn, noDelay, delayOf}
+use Rattle.fields.specs.Fixed.{transactionOf}
+use Rattle.measures.specs.Measures.{lossIn, noLoss, lossOf, delayIn, noDelay, delayOf}
 use Rattle.message.specs.Messages.{count, stampOctets}
 use Rattle.message.proofs.Laid.{count-long, stamp-long}
 use Rattle.reply.specs.Replies.{replyOctets, lbrOctets, lmrOctets, dmrOctets}

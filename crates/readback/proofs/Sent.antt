@@ -15,15 +15,16 @@ use Rattle.whole.proofs.Lists.{part-behind, part-all}
 use Rattle.bits.specs.Fields.{firstOctet, ccmFlags, mepId}
 use Rattle.octets.specs.Numbers.{number, numberLowestFirst, inOctets, bigEndian}
 use Rattle.octets.proofs.Laws.{length-octets, number-back}
-use Rattle.delay.specs.declared.Stamp.{Stamp}
-use Rattle.delay.specs.Stamps.{notGiven, Wire}
+use Rattle.stamps.specs.declared.Stamp.{Stamp}
+use Rattle.stamps.specs.Stamps.{notGiven, Wire}
 use Rattle.opcodes.specs.Opcodes.{ruleOf}
-use Rattle.frame.specs.Head.{flagsOf}
+use Rattle.frame.specs.Head.{flagsOf, word}
 use Rattle.incoming.specs.Message.{periodCode}
-use Rattle.fields.specs.declared.LossFields.{LossFields}
-use Rattle.fields.specs.declared.DelayFields.{DelayFields}
-use Rattle.fields.specs.declared.CcmFields.{CcmFields}
-use Rattle.fields.specs.Fixed.{word, ccmIn, noCcm, ccmOf, megIn, megOf, lossIn, noLoss, lossOf, delayIn, noDelay, delayOf}
+use Rattle.measures.specs.declared.LossFields.{LossFields}
+use Rattle.measures.specs.declared.DelayFields.{DelayFields}
+use Rattle.ccmfields.specs.declared.CcmFields.{CcmFields}
+use Rattle.ccmfields.specs.Ccm.{ccmIn, noCcm, ccmOf, megIn, megOf}
+use Rattle.measures.specs.Measures.{lossIn, noLoss, lossOf, delayIn, noDelay, delayOf}
 use Rattle.incoming.proofs.Shape.{framed}
 use Rattle.address.specs.Multicast.{multicastOf}
 use Rattle.continuity.specs.declared.CcmValues.{CcmValues}

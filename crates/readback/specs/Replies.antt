@@ -6,16 +6,17 @@ use mathlib.Core.Bool.{false}
 use mathlib.Core.List.{List}
 use lib.ListN.{length}
 use Rattle.whole.specs.Lists.{part}
-use Rattle.delay.specs.declared.Stamp.{Stamp}
-use Rattle.delay.specs.Stamps.{Wire}
+use Rattle.stamps.specs.declared.Stamp.{Stamp}
+use Rattle.stamps.specs.Stamps.{Wire}
 use Rattle.opcodes.specs.declared.Handler.{Handler}
 use Rattle.opcodes.specs.declared.Handler.the-variants.{ReaderOnly, Loopback, LossReply, LossRequest, DelayReply, DelayRequest}
 use Rattle.frame.specs.Head.{sourceOf, pduOf, levelOf, versionOf, flagsOf, offsetOf}
-use Rattle.frame.specs.Reader.{answerOf, valueOf}
-use Rattle.incoming.specs.declared.MessageAnswer.the-variants.{Message}
+use Rattle.reader.specs.Reader.{answerOf, valueOf}
+use Rattle.kinds.specs.declared.MessageAnswer.the-variants.{Message}
 use Rattle.incoming.specs.Good.{tlvsOf}
 use Rattle.incoming.specs.Message.{messageOf}
-use Rattle.fields.specs.Fixed.{transactionOf, lossOf, delayOf}
+use Rattle.fields.specs.Fixed.{transactionOf}
+use Rattle.measures.specs.Measures.{lossOf, delayOf}
 use Rattle.reply.specs.Replies.{lbrOctets, lmrOctets, dmrOctets}
 use Rattle.reply.specs.Replied.{cutOff}
 use Rattle.readback.specs.Heads.{Says, Word}

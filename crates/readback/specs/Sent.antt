@@ -4,14 +4,15 @@ use mathlib.Core.Path.{_≡_}
 use mathlib.Core.List.{List}
 use lib.ListN.{length}
 use Rattle.bits.specs.Fields.{ccmFlags}
-use Rattle.delay.specs.declared.Stamp.{Stamp}
-use Rattle.delay.specs.Stamps.{notGiven, Wire}
+use Rattle.stamps.specs.declared.Stamp.{Stamp}
+use Rattle.stamps.specs.Stamps.{notGiven, Wire}
 use Rattle.opcodes.specs.declared.Handler.the-variants.{Continuity, LossRequest, DelayRequest}
-use Rattle.frame.specs.declared.reader.TlvAnswer.the-variants.{NoSuch}
-use Rattle.frame.specs.Reader.{answerOf}
-use Rattle.incoming.specs.declared.MessageAnswer.the-variants.{Message}
+use Rattle.reasons.specs.declared.TlvAnswer.the-variants.{NoSuch}
+use Rattle.reader.specs.Reader.{answerOf}
+use Rattle.kinds.specs.declared.MessageAnswer.the-variants.{Message}
 use Rattle.incoming.specs.Message.{messageOf}
-use Rattle.fields.specs.Fixed.{ccmOf, megOf, lossOf, delayOf}
+use Rattle.ccmfields.specs.Ccm.{ccmOf, megOf}
+use Rattle.measures.specs.Measures.{lossOf, delayOf}
 use Rattle.address.specs.Multicast.{multicastOf}
 use Rattle.continuity.specs.declared.CcmValues.{CcmValues}
 use Rattle.continuity.specs.Continuity.{ccmOctets}

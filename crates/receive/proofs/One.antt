@@ -3,7 +3,7 @@
 use mathlib.Core.Path.{_≡_, sym, ap, _∙_}
 use denote.Ref.{now}
 use Rattle.places.proofs.Stores.{stores}
-use Rattle.receive.specs.Frame.{Framed}
+use Rattle.carryout.specs.CarryOut.{Framed}
 use Rattle.receive.proofs.on_frame.Reads as on-frame
 
 pub on-frame-one : (κs : _) (a : _) (r r′ : _) (s s′ : _) → on-frame.Post κs a r s → on-frame.Post κs a r′ s′

@@ -9,15 +9,16 @@ use lib.ListN.{length}
 use borrow.Author.Tests.{lt-leb, le-leb, ltb-true, ltb-false}
 use Rattle.whole.specs.Tests.{choose}
 use Rattle.whole.proofs.Tests.{known}
-use Rattle.delay.specs.declared.Stamp.{Stamp}
-use Rattle.delay.specs.Stamps.{good}
+use Rattle.stamps.specs.declared.Stamp.{Stamp}
+use Rattle.stamps.specs.Stamps.{good}
 use Rattle.frame.specs.Head.{lengthGood}
 use Rattle.state.specs.State.{State}
 use Rattle.state.specs.WellFormed.{wellFormed}
 use Rattle.answers.specs.declared.FrameAnswer.the-variants.{NotWellFormed, BadLength, BadStamp}
 use Rattle.class.specs.declared.Side.{Side}
 use Rattle.decide.specs.Decide.{decideOf}
-use Rattle.receive.specs.Frame.{framed, carriedOut, frameOf}
+use Rattle.carryout.specs.CarryOut.{framed, carriedOut}
+use Rattle.receive.specs.Frame.{frameOf}
 
 -- not too short and not too long
 not-less : (a b : ℕ) → not (ltb a b) ≡ leb b a

@@ -4,11 +4,11 @@
 use libc::STDERR_FILENO;
 use libc::STDIN_FILENO;
 use libc::STDOUT_FILENO;
-use loss::LossSession;
-use loss::cleared;
 use lossrecord::LINE;
 use replies::REPLY;
 use replies::recount;
+use session::LossSession;
+use session::cleared;
 
 // The octets read at a time: whole replies, so that none lies across two chunks.
 const CHUNK: usize = 16384;

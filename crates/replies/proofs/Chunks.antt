@@ -12,9 +12,10 @@ use borrow.Author.Tests.{eqb-true, eqb-false, eq-eqb, ne-eqb, ltb-true, ltb-fals
 use Rattle.whole.specs.Tests.{choose}
 use Rattle.whole.specs.Lists.{laid}
 use Rattle.whole.proofs.Tests.{known}
-use Rattle.loss.specs.declared.Readings.{Readings}
-use Rattle.loss.specs.declared.LossSession.{LossSession}
-use Rattle.loss.specs.Session.{WellFormed, wellFormed, afterReading}
+use Rattle.session.specs.declared.Readings.{Readings}
+use Rattle.session.specs.declared.LossSession.{LossSession}
+use Rattle.session.specs.Session.{WellFormed, wellFormed}
+use Rattle.loss.specs.Reading.{afterReading}
 use Rattle.loss.specs.Told.{numbersOf}
 use Rattle.loss.proofs.Laws.{sessions}
 use Rattle.lossrecord.specs.Line.{lineRecord}

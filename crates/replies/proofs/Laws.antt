@@ -17,9 +17,10 @@ use Rattle.whole.proofs.Tests.{known}
 use Rattle.whole.proofs.Lists.{part-drop}
 use Rattle.whole.proofs.Apart.{part-front, laid-whole}
 use Rattle.octets.specs.Numbers.{littleEndian, number}
-use Rattle.loss.specs.declared.Readings.{Readings}
-use Rattle.loss.specs.declared.LossSession.{LossSession}
-use Rattle.loss.specs.Session.{Side, near, far, WellFormed, wellFormed, afterReading}
+use Rattle.session.specs.declared.Readings.{Readings}
+use Rattle.session.specs.declared.LossSession.{LossSession}
+use Rattle.session.specs.Session.{Side, near, far, WellFormed, wellFormed}
+use Rattle.loss.specs.Reading.{afterReading}
 use Rattle.loss.specs.Told.{numbersOf}
 use Rattle.loss.proofs.Laws.{sessions}
 use Rattle.record.specs.declared.RecordAnswer.{RecordAnswer}

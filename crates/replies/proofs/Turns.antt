@@ -11,9 +11,10 @@ use Rattle.whole.specs.Tests.{choose}
 use Rattle.whole.specs.Lists.{laid}
 use Rattle.whole.proofs.Lists.{laid-none, length-laid}
 use Rattle.whole.proofs.Pieces.{Has, first, more}
-use Rattle.loss.specs.declared.Readings.{Readings}
-use Rattle.loss.specs.declared.LossSession.{LossSession}
-use Rattle.loss.specs.Session.{wellFormed, afterReading}
+use Rattle.session.specs.declared.Readings.{Readings}
+use Rattle.session.specs.declared.LossSession.{LossSession}
+use Rattle.session.specs.Session.{wellFormed}
+use Rattle.loss.specs.Reading.{afterReading}
 use Rattle.loss.specs.Told.{numbersOf}
 use Rattle.card.specs.declared.Answered.{Answered}
 use Rattle.card.specs.Lent.{readingOf}

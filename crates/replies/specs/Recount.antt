@@ -8,8 +8,8 @@ use lib.Dec.{ltb, eqb}
 use lib.ListN.{length}
 use Rattle.whole.specs.Tests.{choose}
 use Rattle.whole.specs.Lists.{laid}
-use Rattle.loss.specs.declared.LossSession.{LossSession}
-use Rattle.loss.specs.Session.{WellFormed, wellFormed}
+use Rattle.session.specs.declared.LossSession.{LossSession}
+use Rattle.session.specs.Session.{WellFormed, wellFormed}
 use Rattle.replies.specs.declared.Recounted.{Recounted}
 use Rattle.replies.specs.Replies.{replies, Worked, behind, worked}
 

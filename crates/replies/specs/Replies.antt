@@ -7,9 +7,10 @@ use lib.Dec.{eqb}
 use lib.ListN.{length, drop}
 use Rattle.whole.specs.Lists.{part}
 use Rattle.octets.specs.Numbers.{littleEndian, number}
-use Rattle.loss.specs.declared.Readings.{Readings}
-use Rattle.loss.specs.declared.LossSession.{LossSession}
-use Rattle.loss.specs.Session.{readings, afterReading}
+use Rattle.session.specs.declared.Readings.{Readings}
+use Rattle.session.specs.declared.LossSession.{LossSession}
+use Rattle.session.specs.Session.{readings}
+use Rattle.loss.specs.Reading.{afterReading}
 use Rattle.loss.specs.Told.{numbersOf}
 use Rattle.lossrecord.specs.declared.LossLine.{LossLine}
 use Rattle.lossrecord.specs.Line.{lineRecord}

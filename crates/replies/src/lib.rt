@@ -8,14 +8,14 @@ ghost use Rattle.lossrecord.specs.Line.{KeepsRules, lineRecord};
 ghost use Rattle.replies.specs.Replies.{readingsIn, lineOf};
 ghost use Rattle.replies.specs.Recount.{ended, answered, recountInto};
 use card::answer;
-use loss::LossSession;
-use loss::Readings;
-use loss::well_formed;
 use lossrecord::LINE;
 use lossrecord::LossLine;
 use lossrecord::write_line;
 use octets::numbers::read_little;
 use octets::parts::copy_octets;
+use session::LossSession;
+use session::Readings;
+use session::well_formed;
 
 // The octets of a reply: four counts of 32 bits.
 pub const REPLY: usize = 16;

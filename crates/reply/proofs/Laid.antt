@@ -6,7 +6,7 @@ use native.Mathlib.Omega.{arith}
 use lib.ListN.{length, set, take, drop}
 use Rattle.whole.specs.Lists.{part, laid}
 use Rattle.whole.proofs.Lists.{laid-inside, laid-one, length-laid, length-part}
-use Rattle.delay.specs.declared.Stamp.{Stamp}
+use Rattle.stamps.specs.declared.Stamp.{Stamp}
 use Rattle.frame.specs.Head.{sourceOf}
 use Rattle.message.specs.Messages.{count, stampOctets}
 use Rattle.message.proofs.Laid.{count-long, stamp-long}

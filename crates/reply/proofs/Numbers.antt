@@ -13,8 +13,7 @@ use Rattle.whole.proofs.Tests.{choose-map}
 use Rattle.message.specs.Buffer.{noRoom, bufferOf}
 use Rattle.reply.specs.declared.Replied.{Replied}
 use Rattle.reply.specs.declared.Replied.the-variants.{CutOff, NoRoom, Octets}
-use Rattle.reply.specs.declared.RepliedTold.{RepliedTold}
-use Rattle.reply.specs.Replied.{cutOff, repliedOf, leftOf, numbers, told, numbersOf, RepliedNumbers}
+use Rattle.reply.specs.Replied.{cutOff, repliedOf, leftOf, RepliedTold, numbers, told, numbersOf, RepliedNumbers}
 
 -- ── numbers ──
 

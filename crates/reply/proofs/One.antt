@@ -5,7 +5,6 @@ use denote.Ref.{now}
 use Rattle.reply.proofs.write_lbr.Reads as write-lbr
 use Rattle.reply.proofs.write_lmr.Reads as write-lmr
 use Rattle.reply.proofs.write_dmr.Reads as write-dmr
-use Rattle.reply.proofs.tell.Reads as tell
 
 pub write-lbr-one : (κs : _) (a : _) (r r′ : _) (s s′ : _) → write-lbr.Post κs a r s → write-lbr.Post κs a r′ s′ → (r ≡ r′) × (now (s .0) ≡ now (s′ .0))
 write-lbr-one κs a r r′ s s′ p q = (p .0 .0 ∙ sym (q .0 .0), p .1 ∙ sym (q .1))
@@ -15,6 +14,3 @@ write-lmr-one κs a r r′ s s′ p q = (p .0 .0 ∙ sym (q .0 .0), p .1 ∙ sym
 
 pub write-dmr-one : (κs : _) (a : _) (r r′ : _) (s s′ : _) → write-dmr.Post κs a r s → write-dmr.Post κs a r′ s′ → (r ≡ r′) × (now (s .0) ≡ now (s′ .0))
 write-dmr-one κs a r r′ s s′ p q = (p .0 .0 ∙ sym (q .0 .0), p .1 ∙ sym (q .1))
-
-pub tell-one : (κs : _) (a : _) (r r′ : _) (s s′ : _) → tell.Post κs a r s → tell.Post κs a r′ s′ → r ≡ r′
-tell-one κs a r r′ s s′ p q = p ∙ sym q

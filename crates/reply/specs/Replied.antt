@@ -12,7 +12,6 @@ use Rattle.frame.specs.Head.{behindHead}
 use Rattle.message.specs.Buffer.{noRoom, bufferOf}
 use Rattle.reply.specs.declared.Replied.{Replied}
 use Rattle.reply.specs.declared.Replied.the-variants.{CutOff, NoRoom, Octets}
-use Rattle.reply.specs.declared.RepliedTold.{RepliedTold}
 
 -- the request ends before its fixed part of so many octets does
 abbrev pub cutOff : ℕ → List ℕ → Bool
@@ -26,6 +25,12 @@ abbrev pub leftOf : ℕ → List ℕ → List ℕ → List ℕ → List ℕ
 leftOf fixed request reply buffer = cond (cutOff fixed request) buffer (bufferOf reply buffer)
 
 -- ── in the paper's numbers ──
+
+-- the refusal, or 0; the drop, or 0; and the reply's length
+pub record RepliedTold : Type 0 where
+  pub refusal : ℕ
+  pub drop : ℕ
+  pub length : ℕ
 
 abbrev pub numbers : ℕ → ℕ → ℕ → RepliedTold
 numbers refusal drop length = record { refusal = refusal; drop = drop; length = length }

@@ -6,7 +6,7 @@ use mathlib.Core.Path.{_≡_}
 use mathlib.Core.List.{List, [], _∷_}
 use lib.ListN.{length}
 use Rattle.whole.specs.Lists.{laid}
-use Rattle.delay.specs.declared.Stamp.{Stamp}
+use Rattle.stamps.specs.declared.Stamp.{Stamp}
 use Rattle.frame.specs.Head.{sourceOf, behindHead}
 use Rattle.message.specs.Messages.{count, stampOctets}
 

@@ -7,11 +7,11 @@ ghost use Rattle.whole.specs.Lists.{laid};
 ghost use Rattle.frame.specs.Head.{behindHead};
 ghost use Rattle.reply.specs.Replies.{replyOctets, lbrOctets, lmrOctets, dmrOctets};
 ghost use Rattle.reply.specs.Replied.{repliedOf, leftOf, told, numbersOf};
-use delay::Stamp;
 use frame::head::HEAD_LENGTH;
 use message::parts::write_stamp;
 use octets::numbers::write_big;
 use octets::parts::copy_octets;
+use stamps::Stamp;
 
 // What writing a reply is answered.
 pub enum Replied {
@@ -21,14 +21,6 @@ pub enum Replied {
     NoRoom,
     // The reply stands in the buffer's first octets, so many.
     Octets(usize),
-}
-
-// An answer in the paper's numbers: the refusal, or 0; the drop, or 0; and the reply's length.
-#[repr(C)]
-pub struct RepliedTold {
-    pub refusal: u32,
-    pub drop: u32,
-    pub length: usize,
 }
 
 // Writes the request with its source as destination, our address as source, and another opcode.
@@ -95,27 +87,4 @@ pub fn write_dmr(
     write_stamp(into, HEAD_LENGTH + 12, receive);
     write_stamp(into, HEAD_LENGTH + 20, transmit);
     Replied::Octets(request.len())
-}
-
-// An answer in the paper's numbers.
-pub fn tell(answer: Replied) -> RepliedTold
-    ensures { λ r. ⌜ r ≡ told answer ⌝ }
-{
-    match answer {
-        Replied::CutOff => RepliedTold {
-            refusal: 0,
-            drop: 5,
-            length: 0,
-        },
-        Replied::NoRoom => RepliedTold {
-            refusal: 3,
-            drop: 0,
-            length: 0,
-        },
-        Replied::Octets(n) => RepliedTold {
-            refusal: 0,
-            drop: 0,
-            length: n,
-        },
-    }
 }

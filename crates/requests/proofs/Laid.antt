@@ -10,7 +10,7 @@ use Rattle.settings.specs.Settings.{addressAt}
 use Rattle.octets.specs.Numbers.{inOctets, bigEndian}
 use Rattle.octets.proofs.Laws.{length-octets}
 use Rattle.bits.specs.Fields.{firstOctet}
-use Rattle.delay.specs.declared.Stamp.{Stamp}
+use Rattle.stamps.specs.declared.Stamp.{Stamp}
 use Rattle.message.specs.Messages.{count, stampOctets, afterDestination}
 use Rattle.whole.proofs.Pieces.{first, more}
 use Rattle.message.proofs.Laid.{count-long, stamp-long, after-long, zeros}

@@ -5,7 +5,7 @@ use mathlib.Core.Path.{_≡_}
 use mathlib.Core.List.{List, _++_}
 use lib.ListN.{length, replicate}
 use Rattle.bits.specs.Fields.{firstOctet}
-use Rattle.delay.specs.declared.Stamp.{Stamp}
+use Rattle.stamps.specs.declared.Stamp.{Stamp}
 use Rattle.message.specs.Messages.{count, stampOctets, afterDestination}
 
 -- version 1, opcode 43, flags 0, offset 12: TxFCf, and zeros for RxFCf and TxFCb; then the End TLV

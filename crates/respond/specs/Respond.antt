@@ -2,7 +2,7 @@
 -- DMR the caller's two stamps; refusal 3 where the buffer is shorter. Definitions only.
 use Prim.Native.Nat.{ℕ}
 use mathlib.Core.List.{List}
-use Rattle.delay.specs.declared.Stamp.{Stamp}
+use Rattle.stamps.specs.declared.Stamp.{Stamp}
 use Rattle.state.specs.State.{State}
 use Rattle.answers.specs.declared.Drop.the-variants as drop
 use Rattle.answers.specs.declared.FrameAnswer.{FrameAnswer}

@@ -5,12 +5,12 @@ ghost use Rattle.state.specs.State.{lying};
 ghost use Rattle.respond.specs.Respond.{answerFor, respondedOf, leftAfter};
 use answers::Drop;
 use answers::FrameAnswer;
-use delay::Stamp;
 use reply::Replied;
 use reply::write_dmr;
 use reply::write_lbr;
 use reply::write_lmr;
 use settings::PEERS;
+use stamps::Stamp;
 use state::RECEIVED;
 use state::SENT;
 

@@ -7,9 +7,9 @@ use mathlib.Core.List.{List}
 use mathlib.Core.Bool.{Bool, true, _&&_, not}
 use mathlib.Core.Logic.{_↔_}
 use lib.Dec.{leb, eqb}
-use lib.ListN.{length, getD, take, drop}
-use Rattle.whole.specs.Lists.{every, same, distinct}
-use Rattle.words.specs.Words.{within}
+use lib.ListN.{length, getD}
+use Rattle.whole.specs.Lists.{same}
+use Rattle.peerids.specs.Ids.{mepGood, peersGood}
 use Rattle.settings.specs.Settings.{Settings}
 
 -- ── what is meant ──
@@ -41,21 +41,12 @@ pub record Valid (s : Settings) : Type 0 where
 
 -- ── what is tested ──
 
-abbrev pub mepGood : ℕ → Bool
-mepGood id = leb 1 id && leb id 8191
-
 -- level, MEP ID, period code, peer count
 abbrev pub numbersGood : ℕ → ℕ → ℕ → ℕ → Bool
 numbersGood level mep period count = leb level 7 && mepGood mep && (leb 1 period && leb period 7) && leb 1 count
 
 abbrev pub addressesGood : List ℕ → List ℕ → Bool
 addressesGood own losspeer = eqb (groupBit own) 0 && eqb (groupBit losspeer) 0 && not (same own losspeer)
-
-abbrev pub idGood : ℕ → ℕ → Bool
-idGood mep id = mepGood id && not (eqb id mep)
-
-unfoldable pub peersGood : ℕ → ℕ → List ℕ → Bool
-peersGood count mep ids = leb count (length ids) && (every (idGood mep) (take count ids) && distinct (take count ids) && every (within 0) (drop count ids))
 
 unfoldable pub valid : Settings → Bool
 valid s = numbersGood (s .level) (s .mep) (s .period) (s .count) && (addressesGood (s .own) (s .losspeer) && peersGood (s .count) (s .mep) (s .ids))

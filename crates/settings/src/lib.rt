@@ -2,12 +2,10 @@
 // told and not assumed away.
 ghost use mathlib.Core.Path.{_≡_};
 ghost use lib.ListN.{getD};
-ghost use Rattle.whole.specs.Lists.{every};
 ghost use Rattle.settings.specs.Settings.{settingsOf, addressAt};
-ghost use Rattle.settings.specs.Valid.{numbersGood, addressesGood, idGood, peersGood, valid};
+ghost use Rattle.settings.specs.Valid.{numbersGood, addressesGood, valid};
 use octets::parts::same_octets;
-use words::all_distinct;
-use words::all_within;
+use peerids::peers_good;
 
 // How many peers a box has room for: the code's only 8. The definitions have theirs, `slots`.
 pub const PEERS: usize = 8;
@@ -38,39 +36,6 @@ fn addresses_good(names: &[u8; 60]) -> bool
     let all: &[u8] = names;
     let same = same_octets(&all[..6], &all[6..12]);
     (names[0] % 2 == 0) & (names[6] % 2 == 0) & !same
-}
-
-// Whether a word may be a peer's MEP ID, beside our own.
-fn id_good(mep: u32, id: u32) -> bool
-    ensures { λ r. ⌜ r ≡ idGood mep id ⌝ }
-{
-    (1 <= id) & (id <= 8191) & (id != mep)
-}
-
-// Whether each of these words may be.
-fn ids_good(ids: &[u32], mep: u32) -> bool
-    ensures { λ r. ⌜ r ≡ every (idGood mep) (now (ids .entry)) ⌝ }
-{
-    let mut good = true;
-    let mut i: usize = 0;
-    while i < ids.len() {
-        good = good & id_good(mep, ids[i]);
-        i += 1;
-    }
-    good
-}
-
-// Whether the used slots come first, hold IDs that are no two alike and none our own, and the others hold 0.
-fn peers_good(ids: &[u32], count: u32, mep: u32) -> bool
-    ensures { λ r. ⌜ r ≡ peersGood count mep (now (ids .entry)) ⌝ }
-{
-    let used = count as usize;
-    if ids.len() < used {
-        return false;
-    }
-    let good = ids_good(&ids[..used], mep);
-    let apart = all_distinct(&ids[..used]);
-    good & apart & all_within(&ids[used..], 0)
 }
 
 // Whether the settings keep every rule of the paper on their values.

@@ -1,6 +1,2 @@
-pub mod Ids
-pub mod Laid
-pub mod Bodies
-pub mod Lying
 pub mod Records
 pub mod One

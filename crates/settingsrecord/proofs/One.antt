@@ -3,16 +3,8 @@
 use mathlib.Core.Path.{_≡_, sym, ap, _∙_}
 use denote.Ref.{now}
 use Rattle.record.specs.Writing.{RecordEnd}
-use Rattle.settingsrecord.proofs.settings_of.Reads as settings-of
-use Rattle.settingsrecord.proofs.body_of.Reads as body-of
 use Rattle.settingsrecord.proofs.read_settings.Reads as read-settings
 use Rattle.settingsrecord.proofs.write_settings.Reads as write-settings
-
-pub settings-of-one : (κs : _) (a : _) (r r′ : _) (s s′ : _) → settings-of.Post κs a r s → settings-of.Post κs a r′ s′ → r ≡ r′
-settings-of-one κs a r r′ s s′ p q = p ∙ sym q
-
-pub body-of-one : (κs : _) (a : _) (r r′ : _) (s s′ : _) → body-of.Post κs a r s → body-of.Post κs a r′ s′ → r ≡ r′
-body-of-one κs a r r′ s s′ p q = p ∙ sym q
 
 pub read-settings-one : (κs : _) (a : _) (r r′ : _) (s s′ : _) → read-settings.Post κs a r s → read-settings.Post κs a r′ s′ → r ≡ r′
 read-settings-one κs a r r′ s s′ p q = p ∙ sym q

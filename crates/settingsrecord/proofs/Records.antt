@@ -6,13 +6,13 @@ use mathlib.Core.Bool.{Bool, true, false, not, true≢false}
 use mathlib.Core.Logic.{_⊎_, inl, inr, ⊎-elim}
 use native.Mathlib.Omega.{arith}
 use lib.Dec.{ltb}
-use lib.ListN.{length, drop}
+use lib.ListN.{length, drop, replicate}
 use borrow.Author.Tests.{not-true, not-false, ltb-true, ltb-false}
 use Rattle.whole.specs.Tests.{choose}
 use Rattle.whole.specs.Lists.{part, laid}
 use Rattle.whole.proofs.Tests.{known}
 use Rattle.whole.proofs.Lists.{length-part}
-use Rattle.whole.proofs.Apart.{part-front}
+use Rattle.whole.proofs.Apart.{part-front, laid-whole}
 use Rattle.octets.specs.Numbers.{Octets}
 use Rattle.octets.proofs.Laws.{part-octets}
 use Rattle.settings.specs.Settings.{Settings, slots}
@@ -24,11 +24,12 @@ use Rattle.record.specs.declared.RecordTold.{RecordTold}
 use Rattle.record.specs.Writing.{RecordEnd, ended, writeRecord, told, numbersOf}
 use Rattle.record.proofs.Laws.{records}
 use Rattle.record.proofs.Writing.{writing}
-use Rattle.settingsrecord.specs.declared.SettingsRead.{SettingsRead}
-use Rattle.settingsrecord.specs.Body.{settingsBody, settingsIn, Shaped, FieldsHold}
-use Rattle.settingsrecord.specs.SettingsRecord.{bodySize, recordSize, settingsRecord, settingsAt, given, refusedRead, settingsRead, readSettings, writeSettings, SettingsRecords}
-use Rattle.settingsrecord.proofs.Bodies.{bodies}
-use Rattle.settingsrecord.proofs.Lying.{lying-back}
+use Rattle.settingsbody.specs.declared.SettingsRead.{SettingsRead}
+use Rattle.settingsbody.specs.Body.{settingsBody, settingsIn, Shaped, FieldsHold}
+use Rattle.settingsrecord.specs.SettingsRecord.{bodySize, recordSize, settingsRecord, settingsAt, refusedRead, settingsRead, readSettings, writeSettings, SettingsRecords}
+use Rattle.settingsbody.proofs.Bodies.{bodies}
+use Rattle.settingsbody.specs.Lying.{given}
+use Rattle.settingsbody.proofs.Lying.{lying-back}
 
 -- the test and the rules
 keeps : (s : Settings) → valid s ≡ true → Valid s
@@ -83,15 +84,22 @@ module _ (octets : List ℕ) where
     pub long-enough : recordSize ≤ length octets
     long-enough = long is
 
-    module _ {d : Bool} {r : SettingsRead} (l : r ≡ given s) (f : d ≡ valid (settingsRead r)) where
+    -- a body that was copied whole is the record's
+    pub copied : {body : List ℕ} → body ≡ laid 0 (part 4 bodySize octets) (replicate bodySize 0) → body ≡ part 4 bodySize octets
+    copied laid-over = laid-over ∙ laid-whole (replicate bodySize 0) (part 4 bodySize octets) bodySize refl (length-part 4 bodySize octets long-enough)
+
+    module _ {body : List ℕ} {d : Bool} {r : SettingsRead} (l : r ≡ given (settingsIn slots body)) (stands : body ≡ part 4 bodySize octets) (f : d ≡ valid (settingsRead r)) where
+      lain : r ≡ given s
+      lain = l ∙ ap (λ (x : List ℕ). given (settingsIn slots x)) stands
+
       same : valid s ≡ d
-      same = ap valid (sym (lies is)) ∙ ap (λ (x : SettingsRead). valid (settingsRead x)) (sym l) ∙ sym f
+      same = ap valid (sym (lies is)) ∙ ap (λ (x : SettingsRead). valid (settingsRead x)) (sym lain) ∙ sym f
 
       pub ends-rule : not d ≡ true → refusedRead ≡ readSettings octets
       ends-rule k = sym (at-rule is (same ∙ not-true d k))
 
       pub ends-given : not d ≡ false → r ≡ readSettings octets
-      ends-given k = l ∙ sym (at-given is (same ∙ not-false d k))
+      ends-given k = lain ∙ sym (at-given is (same ∙ not-false d k))
 
 -- ── reading: the statement ──
 

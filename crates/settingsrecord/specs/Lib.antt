@@ -1,3 +1,1 @@
-pub mod Body
-pub mod Lying
 pub mod SettingsRecord

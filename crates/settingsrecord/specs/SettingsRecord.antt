@@ -16,9 +16,9 @@ use Rattle.record.specs.declared.RecordAnswer.the-variants as stored
 use Rattle.record.specs.declared.RecordTold.{RecordTold}
 use Rattle.record.specs.Record.{recordOf, isRecord, IsRecord, NoRecord}
 use Rattle.record.specs.Writing.{RecordEnd, ended, writeRecord, told, numbersOf}
-use Rattle.settingsrecord.specs.declared.SettingsRead.{SettingsRead}
-use Rattle.settingsrecord.specs.Body.{settingsBody, bodyLength, settingsIn, Shaped, FieldsHold}
-use Rattle.settingsrecord.specs.Lying.{setOf, namesOf}
+use Rattle.settingsbody.specs.declared.SettingsRead.{SettingsRead}
+use Rattle.settingsbody.specs.Body.{settingsBody, bodyLength, settingsIn, Shaped, FieldsHold}
+use Rattle.settingsbody.specs.Lying.{given}
 
 -- the octets of a body with as many slots as a box has, and of the whole record
 abbrev pub bodySize : ℕ
@@ -36,10 +36,6 @@ abbrev pub settingsAt : List ℕ → Settings
 settingsAt octets = settingsIn slots (part 4 bodySize octets)
 
 -- ── reading ──
-
--- no refusal, and the settings as they lie in their arrays: an equation for each
-abbrev pub given : Settings → SettingsRead
-given s = record { refusal = 0; set = setOf s; names = namesOf s; ids = s .ids }
 
 -- refusal 7, and every value 0
 abbrev pub refusedRead : SettingsRead

@@ -4,8 +4,8 @@ use libc::STDERR_FILENO;
 use libc::STDIN_FILENO;
 use libc::STDOUT_FILENO;
 use lines::Lines;
-use lines::header;
 use lines::write_lines;
+use sheettext::header;
 
 // The octets read at a time: whole records, so that none lies across two chunks.
 const CHUNK: usize = 24576;

@@ -10,7 +10,7 @@ use Rattle.period.specs.Periods.{ticksOf, holdOf}
 use Rattle.period.proofs.Laws.{period-laws}
 use Rattle.settings.specs.Settings.{slots, Settings}
 use Rattle.settings.specs.Valid.{Valid}
-use Rattle.loss.proofs.Laws.{sessions}
+use Rattle.session.proofs.Laws.{cleared-well}
 use Rattle.state.specs.WellFormed.{WellFormed}
 use Rattle.start.specs.Start.{startOf, zeroState, Starts}
 use Rattle.start.proofs.Started.{agree}
@@ -44,7 +44,7 @@ well s v = record {
   rdi = λ i. omega (arith, zeros-at slots i);
   no-timer = λ i h. changes .rest (λ x. holdOf (s .period)) (s .count) (replicate slots 0) 0 i h ∙ zeros-at slots i;
   no-rdi = λ i h. zeros-at slots i;
-  session = sessions .cleared-well;
+  session = cleared-well;
 }
 
 zero-not : WellFormed zeroState → ⊥

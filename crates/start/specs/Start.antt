@@ -12,7 +12,7 @@ use Rattle.whole.specs.Lists.{onFirst}
 use Rattle.period.specs.Periods.{ticksOf, holdOf}
 use Rattle.settings.specs.Settings.{slots, Settings, settingsOf}
 use Rattle.settings.specs.Valid.{Valid, valid}
-use Rattle.loss.specs.Session.{clearedSession}
+use Rattle.session.specs.Session.{clearedSession}
 use Rattle.state.specs.State.{State, viewOf}
 use Rattle.state.specs.WellFormed.{WellFormed}
 use Rattle.start.specs.declared.SettingAnswer.{SettingAnswer}

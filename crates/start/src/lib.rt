@@ -6,6 +6,8 @@ ghost use lib.ListN.{replicate};
 ghost use Rattle.whole.specs.Lists.{onFirst};
 ghost use Rattle.settings.specs.Settings.{slots, settingsOf};
 ghost use Rattle.start.specs.Start.{answerOf, told, numbersOf, Started};
+use fill::set_first;
+use fill::zero_words;
 use octets::parts::copy_octets;
 use period::hold_of;
 use period::ticks_of;
@@ -16,8 +18,6 @@ use settings::is_valid;
 use state::FAR;
 use state::NEAR;
 use state::NEXT;
-use words::set_first;
-use words::zero_words;
 
 // What a new setting is answered.
 pub enum SettingAnswer {

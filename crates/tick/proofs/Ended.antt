@@ -15,14 +15,15 @@ use Rattle.state.specs.WellFormed.{wellFormed}
 use Rattle.state.specs.Changed.{next, put, lowered}
 use Rattle.message.specs.Buffer.{bufferOf}
 use Rattle.ccm.specs.Ccm.{ccmOf}
-use Rattle.tick.specs.declared.TickAnswer.{TickAnswer}
-use Rattle.tick.specs.declared.TickAnswer.the-variants.{NotWellFormed, NoRoom, Quiet, Sent}
-use Rattle.tick.specs.Tick.{tickedOf, Ticked, ended, tickOf, told, numbersOf}
+use Rattle.sends.specs.declared.TickAnswer.{TickAnswer}
+use Rattle.sends.specs.declared.TickAnswer.the-variants.{NotWellFormed, NoRoom, Quiet, Sent}
+use Rattle.tick.specs.Tick.{tickedOf, Ticked, ended, tickOf, numbersOf}
+use Rattle.sends.specs.Told.{tickTold}
 
 -- an answer is told as the paper numbers it
-pub agree : (s : State) (buffer : List ℕ) → told (tickOf s buffer .answer) ≡ numbersOf s buffer
-unfolding tickOf told numbersOf
-agree s buffer = choose-map (λ (t : Ticked). told (t .answer)) _ _
+pub agree : (s : State) (buffer : List ℕ) → tickTold (tickOf s buffer .answer) ≡ numbersOf s buffer
+unfolding tickOf tickTold numbersOf
+agree s buffer = choose-map (λ (t : Ticked). tickTold (t .answer)) _ _
 
 -- there is room for the message, so it is laid
 room : (message buffer : List ℕ) → length message ≡ 89 → 89 ≤ length buffer → bufferOf message buffer ≡ laid 0 message buffer
@@ -38,10 +39,10 @@ bad s {b} e h = sym e ∙ not-true b h
 module _ (s : State) (buffer : List ℕ) where
   -- r, x and y are the outcome, and r is told by its number
   abbrev pub Outcome : TickAnswer → State → List ℕ → Type 0
-  Outcome r x y = (ended r x y ≡ tickOf s buffer) × (told r ≡ numbersOf s buffer)
+  Outcome r x y = (ended r x y ≡ tickOf s buffer) × (tickTold r ≡ numbersOf s buffer)
 
   numbered : {r : TickAnswer} {x : State} {y : List ℕ} → tickOf s buffer ≡ ended r x y → Outcome r x y
-  numbered e = (sym e, ap (λ (t : Ticked). told (t .answer)) (sym e) ∙ agree s buffer)
+  numbered e = (sym e, ap (λ (t : Ticked). tickTold (t .answer)) (sym e) ∙ agree s buffer)
 
   pub at-2 : wellFormed s ≡ false → tickOf s buffer ≡ ended NotWellFormed s buffer
   unfolding tickOf choose

@@ -5,7 +5,6 @@ use denote.Ref.{now}
 use Rattle.places.proofs.Stores.{stores}
 use Rattle.tick.specs.Tick.{Ticked}
 use Rattle.tick.proofs.tick.Reads as tick
-use Rattle.tick.proofs.tell.Reads as tell
 
 pub tick-one : (κs : _) (a : _) (r r′ : _) (s s′ : _) → tick.Post κs a r s → tick.Post κs a r′ s′
     → (r ≡ r′)
@@ -17,6 +16,3 @@ tick-one κs a r r′ s s′ p q =
     let arrays = stores (now (a .0)) (now (a .1 .0)) (now (a .1 .1 .0)) .one (now (s .1 .1 .1 .0)) (now (a .1 .1 .1 .1 .0)) (now (s .1 .1 .1 .1 .1 .0)) (now (a .1 .1 .1 .1 .1 .1 .0))
     (now (s′ .1 .1 .1 .0)) (now (a .1 .1 .1 .1 .0)) (now (s′ .1 .1 .1 .1 .1 .0)) (now (a .1 .1 .1 .1 .1 .1 .0)) (p .1) (q .1) (ap (λ (t : Ticked). t .state) e) in
     (ap (λ (t : Ticked). t .answer) e, arrays .0, arrays .2, ap (λ (t : Ticked). t .buffer) e)
-
-pub tell-one : (κs : _) (a : _) (r r′ : _) (s s′ : _) → tell.Post κs a r s → tell.Post κs a r′ s′ → r ≡ r′
-tell-one κs a r r′ s s′ p q = p ∙ sym q

@@ -16,9 +16,10 @@ use Rattle.state.specs.State.{State}
 use Rattle.state.specs.WellFormed.{WellFormed, wellFormed}
 use Rattle.state.proofs.Rules.{well-formed-is}
 use Rattle.ccm.specs.Ccm.{ccmOf}
-use Rattle.tick.specs.declared.TickAnswer.{TickAnswer}
-use Rattle.tick.specs.declared.TickAnswer.the-variants.{NotWellFormed, NoRoom, Quiet, Sent}
-use Rattle.tick.specs.Tick.{ticksLeft, nextOf, tickedOf, Ticked, ended, tickOf, told, Ticks}
+use Rattle.sends.specs.declared.TickAnswer.{TickAnswer}
+use Rattle.sends.specs.declared.TickAnswer.the-variants.{NotWellFormed, NoRoom, Quiet, Sent}
+use Rattle.tick.specs.Tick.{ticksLeft, nextOf, tickedOf, Ticked, ended, tickOf, Ticks}
+use Rattle.sends.specs.Told.{tickTold}
 use Rattle.tick.proofs.Ended.{agree, at-2, at-quiet, at-3, at-sent}
 
 -- ── a well-formed state stays so ──
@@ -174,25 +175,25 @@ module _ (s : State) (buffer : List ℕ) where
   stays (sends v h k e) w = rw e (ticked-well s w)
 
   -- the refusal, by an equation for the whole outcome
-  refusal-of : {x : Ticked} → o ≡ x → told (o .answer) .refusal ≡ told (x .answer) .refusal
-  refusal-of e = ap (λ (t : Ticked). told (t .answer) .refusal) e
+  refusal-of : {x : Ticked} → o ≡ x → tickTold (o .answer) .refusal ≡ tickTold (x .answer) .refusal
+  refusal-of e = ap (λ (t : Ticked). tickTold (t .answer) .refusal) e
 
-  refused : Case s buffer → (told (o .answer) .refusal ≡ 0 → ⊥) → (o .state ≡ s) × (o .buffer ≡ buffer)
-  unfolding told
+  refused : Case s buffer → (tickTold (o .answer) .refusal ≡ 0 → ⊥) → (o .state ≡ s) × (o .buffer ≡ buffer)
+  unfolding tickTold
   refused (bad n e) r = (ap (λ (t : Ticked). t .state) e, ap (λ (t : Ticked). t .buffer) e)
   refused (goes-on v h e) r = absurd (r (refusal-of e))
   refused (short v h k e) r = (ap (λ (t : Ticked). t .state) e, ap (λ (t : Ticked). t .buffer) e)
   refused (sends v h k e) r = absurd (r (refusal-of e))
 
-  enough : Case s buffer → WellFormed s → 89 ≤ length buffer → told (o .answer) .refusal ≡ 0
-  unfolding told
+  enough : Case s buffer → WellFormed s → 89 ≤ length buffer → tickTold (o .answer) .refusal ≡ 0
+  unfolding tickTold
   enough (bad n e) w l = absurd (n w)
   enough (goes-on v h e) w l = refusal-of e
   enough (short v h k e) w l = absurd (not-both k l)
   enough (sends v h k e) w l = refusal-of e
 
-  passes : Case s buffer → told (o .answer) .refusal ≡ 0 → o .state ≡ tickedOf s
-  unfolding told
+  passes : Case s buffer → tickTold (o .answer) .refusal ≡ 0 → o .state ≡ tickedOf s
+  unfolding tickTold
   passes (bad n e) r = absurd (not-zero (refusal-of e) r)
   passes (goes-on v h e) r = ap (λ (t : Ticked). t .state) e
   passes (short v h k e) r = absurd (not-zero (refusal-of e) r)

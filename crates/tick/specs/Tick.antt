@@ -13,10 +13,12 @@ use Rattle.period.specs.Periods.{ticksOf}
 use Rattle.state.specs.State.{State}
 use Rattle.state.specs.WellFormed.{WellFormed, wellFormed}
 use Rattle.state.specs.Changed.{next, put, lowered}
+use Rattle.message.specs.declared.parts.WrittenTold.{WrittenTold}
+use Rattle.message.specs.Buffer.{numbers}
+use Rattle.sends.specs.Told.{ccmLength, tickTold}
 use Rattle.ccm.specs.Ccm.{ccmOf}
-use Rattle.tick.specs.declared.TickAnswer.{TickAnswer}
-use Rattle.tick.specs.declared.TickAnswer.the-variants.{NotWellFormed, NoRoom, Quiet, Sent}
-use Rattle.tick.specs.declared.TickTold.{TickTold}
+use Rattle.sends.specs.declared.TickAnswer.{TickAnswer}
+use Rattle.sends.specs.declared.TickAnswer.the-variants.{NotWellFormed, NoRoom, Quiet, Sent}
 
 -- ── the state after ──
 
@@ -31,10 +33,6 @@ nextOf s = cond (ticksLeft s) (s .next - 1) (ticksOf (s .settings .period))
 -- every timer above 0 lowered by one, and the ticks to the next CCM counted
 abbrev pub tickedOf : State → State
 tickedOf s = put next (nextOf s) (lowered s)
-
--- how long the CCM is
-abbrev pub ccmLength : ℕ
-ccmLength = 89
 
 -- ── the whole outcome ──
 
@@ -60,19 +58,8 @@ tickOf s buffer =
 
 -- ── in the paper's numbers ──
 
--- the refusal, or 0, and the length of what was written
-abbrev pub numbers : ℕ → ℕ → TickTold
-numbers refusal length = record { refusal = refusal; length = length }
-
--- the number and the length of each answer
-unfoldable pub told : TickAnswer → TickTold
-told NotWellFormed = numbers 2 0
-told NoRoom = numbers 3 0
-told Quiet = numbers 0 0
-told Sent = numbers 0 ccmLength
-
 -- the same from the state and the buffer alone
-unfoldable pub numbersOf : State → List ℕ → TickTold
+unfoldable pub numbersOf : State → List ℕ → WrittenTold
 numbersOf s buffer =
     choose (
     (not (wellFormed s), numbers 2 0)
@@ -91,11 +78,11 @@ pub record Ticks : Type 0 where
   pub quiet : (s : State) (buffer : List ℕ) → (tickOf s buffer .answer ≡ Quiet) ↔ (WellFormed s × (1 < s .next))
   pub sends : (s : State) (buffer : List ℕ) → (tickOf s buffer .answer ≡ Sent) ↔ (WellFormed s × (s .next ≡ 1) × (89 ≤ length buffer))
   -- a refused tick leaves state and buffer as they were, whatever they held
-  pub refused : (s : State) (buffer : List ℕ) → (told (tickOf s buffer .answer) .refusal ≡ 0 → ⊥) → (tickOf s buffer .state ≡ s) × (tickOf s buffer .buffer ≡ buffer)
+  pub refused : (s : State) (buffer : List ℕ) → (tickTold (tickOf s buffer .answer) .refusal ≡ 0 → ⊥) → (tickOf s buffer .state ≡ s) × (tickOf s buffer .buffer ≡ buffer)
   -- a buffer of 89 octets is never refused by a well-formed state
-  pub enough : (s : State) (buffer : List ℕ) → WellFormed s → 89 ≤ length buffer → told (tickOf s buffer .answer) .refusal ≡ 0
+  pub enough : (s : State) (buffer : List ℕ) → WellFormed s → 89 ≤ length buffer → tickTold (tickOf s buffer .answer) .refusal ≡ 0
   -- a tick that is not refused passes
-  pub passes : (s : State) (buffer : List ℕ) → told (tickOf s buffer .answer) .refusal ≡ 0 → tickOf s buffer .state ≡ tickedOf s
+  pub passes : (s : State) (buffer : List ℕ) → tickTold (tickOf s buffer .answer) .refusal ≡ 0 → tickOf s buffer .state ≡ tickedOf s
   -- what is sent is the CCM of the state after, and octets behind it stay; where none is sent the buffer stays
   pub writes : (s : State) (buffer : List ℕ) → tickOf s buffer .answer ≡ Sent → tickOf s buffer .buffer ≡ laid 0 (ccmOf (tickedOf s)) buffer
   pub writes-none : (s : State) (buffer : List ℕ) → (tickOf s buffer .answer ≡ Sent → ⊥) → tickOf s buffer .buffer ≡ buffer
@@ -106,4 +93,4 @@ pub record Ticks : Type 0 where
   pub received-stays : (s : State) (buffer : List ℕ) → tickOf s buffer .state .received ≡ s .received
   pub session-stays : (s : State) (buffer : List ℕ) → tickOf s buffer .state .session ≡ s .session
   -- an answer is told as the paper numbers it
-  pub agree : (s : State) (buffer : List ℕ) → told (tickOf s buffer .answer) ≡ numbersOf s buffer
+  pub agree : (s : State) (buffer : List ℕ) → tickTold (tickOf s buffer .answer) ≡ numbersOf s buffer

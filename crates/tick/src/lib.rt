@@ -2,36 +2,19 @@
 ghost use mathlib.Core.Path.{_≡_};
 ghost use Rattle.state.specs.State.{lying};
 ghost use Rattle.places.specs.Stored.{Whole};
-ghost use Rattle.tick.specs.Tick.{ended, tickOf, told, numbersOf};
+ghost use Rattle.sends.specs.Told.{tickTold};
+ghost use Rattle.tick.specs.Tick.{ended, tickOf, numbersOf};
 use ccm::write_own_ccm;
 use lower::pass_tick;
 use period::ticks_of;
+use sends::TickAnswer;
 use settings::PEERS;
 use settings::PERIOD;
 use state::NEXT;
-use state::is_well_formed;
+use wellformed::is_well_formed;
 
 // How long a CCM is.
 const CCM_LENGTH: usize = 89;
-
-// What a tick is answered.
-pub enum TickAnswer {
-    // Refusal 2: the state is not well formed.
-    NotWellFormed,
-    // Refusal 3: the period's last tick, and the buffer is shorter than a CCM.
-    NoRoom,
-    // The tick has passed, and nothing is to be sent.
-    Quiet,
-    // It has passed, and a CCM stands in the buffer's first 89 octets.
-    Sent,
-}
-
-// An answer in the paper's numbers: the refusal, or 0, and the message's length.
-#[repr(C)]
-pub struct TickTold {
-    pub refusal: u32,
-    pub length: usize,
-}
 
 // Lets a tick pass, and on the last of a period writes a CCM with the conditions that stand after it.
 pub fn tick(
@@ -44,7 +27,7 @@ pub fn tick(
     totals: &[i64; 2],
     out: &mut [u8],
 ) -> TickAnswer
-    ensures { λ r. ⌜ (ended r (lying (set .entry) (names .entry) (ids .entry) (timers .exit) (rdi .entry) (run .exit) (totals .entry)) (now (out .exit)) ≡ tickOf (lying (set .entry) (names .entry) (ids .entry) (timers .entry) (rdi .entry) (run .entry) (totals .entry)) (now (out .entry))) × (told r ≡ numbersOf (lying (set .entry) (names .entry) (ids .entry) (timers .entry) (rdi .entry) (run .entry) (totals .entry)) (now (out .entry))) ⌝ }
+    ensures { λ r. ⌜ (ended r (lying (set .entry) (names .entry) (ids .entry) (timers .exit) (rdi .entry) (run .exit) (totals .entry)) (now (out .exit)) ≡ tickOf (lying (set .entry) (names .entry) (ids .entry) (timers .entry) (rdi .entry) (run .entry) (totals .entry)) (now (out .entry))) × (tickTold r ≡ numbersOf (lying (set .entry) (names .entry) (ids .entry) (timers .entry) (rdi .entry) (run .entry) (totals .entry)) (now (out .entry))) ⌝ }
     ensures { λ _. ⌜ Whole (now (run .exit)) (now (totals .entry)) ⌝ }
 {
     // a view of an array tells its length, and costs nothing
@@ -74,28 +57,4 @@ pub fn tick(
     // the answer is known: there is room
     let _written = write_own_ccm(set, names, ids, timers, rdi, run, totals, out);
     TickAnswer::Sent
-}
-
-// An answer in the paper's numbers.
-pub fn tell(answer: TickAnswer) -> TickTold
-    ensures { λ r. ⌜ r ≡ told answer ⌝ }
-{
-    match answer {
-        TickAnswer::NotWellFormed => TickTold {
-            refusal: 2,
-            length: 0,
-        },
-        TickAnswer::NoRoom => TickTold {
-            refusal: 3,
-            length: 0,
-        },
-        TickAnswer::Quiet => TickTold {
-            refusal: 0,
-            length: 0,
-        },
-        TickAnswer::Sent => TickTold {
-            refusal: 0,
-            length: CCM_LENGTH,
-        },
-    }
 }

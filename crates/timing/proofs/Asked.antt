@@ -6,7 +6,9 @@ use Rattle.settings.specs.Settings.{Settings}
 use Rattle.state.specs.State.{State}
 use Rattle.state.specs.WellFormed.{WellFormed}
 use Rattle.demands.specs.Calls.{Arrival}
-use Rattle.demands.specs.Cases.{level, Oam, OwnLevel, GoodDestination, own, group, D6, destination, group-source, stranger, Sound, GoodCcm, PeerAt, OwnCcm, FromPeer}
+use Rattle.demands.specs.Cases.{level, Oam, OwnLevel}
+use Rattle.demands.specs.Drops.{GoodDestination, own, group, D6, destination, group-source, stranger, Sound, GoodCcm}
+use Rattle.demands.specs.Taken.{PeerAt, OwnCcm, FromPeer}
 
 -- by the settings alone
 module _ {s u : State} (e : s .settings ≡ u .settings) where

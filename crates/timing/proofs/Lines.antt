@@ -5,12 +5,12 @@ use mathlib.Core.List.{List}
 use mathlib.Core.Logic.{⊎-elim, _⊎_, inl, inr}
 use native.Mathlib.Omega.{arith}
 use lib.ListN.{length, length-set}
-use Rattle.delay.specs.declared.Stamp.{Stamp}
-use Rattle.loss.specs.declared.LossSession.{LossSession}
+use Rattle.stamps.specs.declared.Stamp.{Stamp}
+use Rattle.session.specs.declared.LossSession.{LossSession}
 use Rattle.period.specs.Periods.{holdOf}
 use Rattle.settings.specs.Settings.{Settings, slots}
 use Rattle.settings.specs.Valid.{Valid}
-use Rattle.fields.specs.Fixed.{ccmIn}
+use Rattle.ccmfields.specs.Ccm.{ccmIn}
 use Rattle.state.specs.State.{State}
 use Rattle.state.specs.Changed.{Word, placeOf, put, heard, withSession}
 use Rattle.state.specs.Changed as word
@@ -18,8 +18,13 @@ use Rattle.state.specs.WellFormed.{WellFormed}
 use Rattle.start.proofs.Starts.{starts}
 use Rattle.demands.specs.Calls as call
 use Rattle.demands.specs.Calls.{Arrival, Call, Outcome}
-use Rattle.demands.specs.Cases.{pdu, hold, code, FromPeer}
+use Rattle.demands.specs.Cases.{pdu, hold}
+use Rattle.demands.specs.Drops.{code}
+use Rattle.demands.specs.Taken.{FromPeer}
 use Rattle.demands.specs.Said as said
+use Rattle.demands.specs.Judged as judging
+use Rattle.demands.specs.Handling as handling
+use Rattle.demands.specs.Called as calling
 use Rattle.demands.specs.Said.{Said}
 use Rattle.timing.specs.Timers.{Condition, mismerge, unexpected-level, unexpected-mep, unexpected-period, ais, lck, Timer, peer, of, asked, Sets}
 use Rattle.timing.specs.Timers as sets
@@ -98,55 +103,55 @@ module _ {t : Settings} {s : State} (v : Valid t) (H : Holds t s) where
   period-line a k p e = record { settings = refl; slots = length-set (s .timers) k (hold s); next = refl; timers = period-timers a k (ccmIn (pdu a) .rdi) p e }
 
   pub frame-line : {a : Arrival} {o : Outcome} → Said s (call.frame a) o → Change t s (call.frame a) (o .state)
-  frame-line (said.frame-2 a w) = idle
-  frame-line (said.frame-1 a w n) = idle
-  frame-line (said.frame-6-receive a w l g) = idle
-  frame-line (said.frame-6-transmit a w l g) = idle
-  frame-line (said.rule-1-received a h k e) = counts word.received _ (omega arith) refl
-  frame-line (said.rule-1-sent a h k e) = counts word.sent _ (omega arith) refl
-  frame-line (said.rule-2-D1 a h e k) = idle
-  frame-line (said.rule-2-above a o k) = idle
-  frame-line (said.rule-2-passive a o e k) = idle
-  frame-line (said.rule-3-ccm a o e k g) = condition unexpected-level (hold s) _ refl (sets.lower-ccm a (oam-moves there good o) e (rw (← H .same) k) (good-moves there g))
-  frame-line (said.rule-3-other a o e k g) = idle
-  frame-line (said.rule-4-D3 a l k) = idle
-  frame-line (said.rule-4-D4 a l k) = idle
-  frame-line (said.rule-4-D5 a least l h k d) = idle
-  frame-line (said.rule-4-D6 a least l h k u d) = idle
-  frame-line (said.rule-4-D7-ccm a l q e z) = idle
-  frame-line (said.rule-4-D7-alarm a l q e z) = idle
-  frame-line (said.rule-4-D7-delay a l k) = idle
-  frame-line (said.rule-5-mismerge a k m) = condition mismerge (hold s) _ refl (sets.other-meg a (ccm-moves there good k) (λ e. m (e ∙ sym (meg-same))))
-  frame-line (said.rule-5-mep a k m u) = condition unexpected-mep (hold s) _ refl (sets.no-peer a (ccm-moves there good k) (m ∙ meg-same) (λ i p. u i (peer-moves (sym there) p)))
-  frame-line (said.rule-5-peer a k p e) = hears k (hold s) _ _ (sets.from-peer a k (from-moves there good p))
-  frame-line (said.rule-5-period a k p e) = period-line a k p e
-  frame-line (said.rule-5-ais a l q e o) = condition ais _ _ refl (sets.alarm a (own-moves there good l) (sound-moves there q) e o)
-  frame-line (said.rule-5-lck a l q e o) = condition lck _ _ refl (sets.locked a (own-moves there good l) (sound-moves there q) e o)
-  frame-line (said.rule-6 a reply l q r h) = idle
-  frame-line (said.frame-3 a reply l q r h) = idle
-  frame-line (said.rule-7-first a l k) = session _
-  frame-line (said.rule-7-later a l k m) = session _
-  frame-line (said.frame-5 a l k m) = idle
-  frame-line (said.rule-8-two-way a g p h) = idle
-  frame-line (said.rule-8-all-ways a g p x y z) = idle
-  frame-line (said.rule-8-D8-two-way a g p h) = idle
-  frame-line (said.rule-8-D8-all-ways a g p h) = idle
+  frame-line (said.by-rules-1-to-4 (judging.frame-2 a w)) = idle
+  frame-line (said.by-rules-1-to-4 (judging.frame-1 a w n)) = idle
+  frame-line (said.by-rules-1-to-4 (judging.frame-6-receive a w l g)) = idle
+  frame-line (said.by-rules-1-to-4 (judging.frame-6-transmit a w l g)) = idle
+  frame-line (said.by-rules-1-to-4 (judging.rule-1-received a h k e)) = counts word.received _ (omega arith) refl
+  frame-line (said.by-rules-1-to-4 (judging.rule-1-sent a h k e)) = counts word.sent _ (omega arith) refl
+  frame-line (said.by-rules-1-to-4 (judging.rule-2-D1 a h e k)) = idle
+  frame-line (said.by-rules-1-to-4 (judging.rule-2-above a o k)) = idle
+  frame-line (said.by-rules-1-to-4 (judging.rule-2-passive a o e k)) = idle
+  frame-line (said.by-rules-1-to-4 (judging.rule-3-ccm a o e k g)) = condition unexpected-level (hold s) _ refl (sets.lower-ccm a (oam-moves there good o) e (rw (← H .same) k) (good-moves there g))
+  frame-line (said.by-rules-1-to-4 (judging.rule-3-other a o e k g)) = idle
+  frame-line (said.by-rules-1-to-4 (judging.rule-4-D3 a l k)) = idle
+  frame-line (said.by-rules-1-to-4 (judging.rule-4-D4 a l k)) = idle
+  frame-line (said.by-rules-1-to-4 (judging.rule-4-D5 a least l h k d)) = idle
+  frame-line (said.by-rules-1-to-4 (judging.rule-4-D6 a least l h k u d)) = idle
+  frame-line (said.by-rules-1-to-4 (judging.rule-4-D7-ccm a l q e z)) = idle
+  frame-line (said.by-rules-1-to-4 (judging.rule-4-D7-alarm a l q e z)) = idle
+  frame-line (said.by-rules-1-to-4 (judging.rule-4-D7-delay a l k)) = idle
+  frame-line (said.by-rules-5-to-8 (handling.rule-5-mismerge a k m)) = condition mismerge (hold s) _ refl (sets.other-meg a (ccm-moves there good k) (λ e. m (e ∙ sym (meg-same))))
+  frame-line (said.by-rules-5-to-8 (handling.rule-5-mep a k m u)) = condition unexpected-mep (hold s) _ refl (sets.no-peer a (ccm-moves there good k) (m ∙ meg-same) (λ i p. u i (peer-moves (sym there) p)))
+  frame-line (said.by-rules-5-to-8 (handling.rule-5-peer a k p e)) = hears k (hold s) _ _ (sets.from-peer a k (from-moves there good p))
+  frame-line (said.by-rules-5-to-8 (handling.rule-5-period a k p e)) = period-line a k p e
+  frame-line (said.by-rules-5-to-8 (handling.rule-5-ais a l q e o)) = condition ais _ _ refl (sets.alarm a (own-moves there good l) (sound-moves there q) e o)
+  frame-line (said.by-rules-5-to-8 (handling.rule-5-lck a l q e o)) = condition lck _ _ refl (sets.locked a (own-moves there good l) (sound-moves there q) e o)
+  frame-line (said.by-rules-5-to-8 (handling.rule-6 a reply l q r h)) = idle
+  frame-line (said.by-rules-5-to-8 (handling.frame-3 a reply l q r h)) = idle
+  frame-line (said.by-rules-5-to-8 (handling.rule-7-first a l k)) = session _
+  frame-line (said.by-rules-5-to-8 (handling.rule-7-later a l k m)) = session _
+  frame-line (said.by-rules-5-to-8 (handling.frame-5 a l k m)) = idle
+  frame-line (said.by-rules-5-to-8 (handling.rule-8-two-way a g p h)) = idle
+  frame-line (said.by-rules-5-to-8 (handling.rule-8-all-ways a g p x y z)) = idle
+  frame-line (said.by-rules-5-to-8 (handling.rule-8-D8-two-way a g p h)) = idle
+  frame-line (said.by-rules-5-to-8 (handling.rule-8-D8-all-ways a g p h)) = idle
 
   pub clear-line : {o : Outcome} → Said s call.clear o → Change t s call.clear (o .state)
-  clear-line (said.clear-2 n) = idle
-  clear-line (said.clears w) = session _
+  clear-line (said.by-call (calling.clear-2 n)) = idle
+  clear-line (said.by-call (calling.clears w)) = session _
 
   pub lmm-line : {b : List ℕ} {o : Outcome} → Said s (call.send-LMM b) o → Change t s (call.send-LMM b) (o .state)
-  lmm-line (said.lmm-2 b n) = idle
-  lmm-line (said.lmm-3 b w h) = idle
-  lmm-line (said.lmm-sends b w h) = idle
+  lmm-line (said.by-call (calling.lmm-2 b n)) = idle
+  lmm-line (said.by-call (calling.lmm-3 b w h)) = idle
+  lmm-line (said.by-call (calling.lmm-sends b w h)) = idle
 
   pub dmm-line : {d : Stamp} {b : List ℕ} {o : Outcome} → Said s (call.send-DMM d b) o → Change t s (call.send-DMM d b) (o .state)
-  dmm-line (said.dmm-2 d b n) = idle
-  dmm-line (said.dmm-6 d b w g) = idle
-  dmm-line (said.dmm-3 d b w g h) = idle
-  dmm-line (said.dmm-sends d b w g h) = idle
+  dmm-line (said.by-call (calling.dmm-2 d b n)) = idle
+  dmm-line (said.by-call (calling.dmm-6 d b w g)) = idle
+  dmm-line (said.by-call (calling.dmm-3 d b w g h)) = idle
+  dmm-line (said.by-call (calling.dmm-sends d b w g h)) = idle
 
   pub conditions-line : {o : Outcome} → Said s call.conditions o → Change t s call.conditions (o .state)
-  conditions-line (said.conditions-2 n) = idle
-  conditions-line (said.conditions-show r w h) = idle
+  conditions-line (said.by-call (calling.conditions-2 n)) = idle
+  conditions-line (said.by-call (calling.conditions-show r w h)) = idle

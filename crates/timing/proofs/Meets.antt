@@ -25,14 +25,15 @@ use Rattle.start.specs.Start.{startOf}
 use Rattle.start.proofs.Starts.{starts}
 use Rattle.demands.specs.Calls as call
 use Rattle.demands.specs.Calls.{Call, Answer, Raised, Outcome, Box}
-use Rattle.demands.specs.Cases.{Flag, on, off, Lost}
+use Rattle.demands.specs.Standing.{Flag, on, off, Lost, Shows}
 use Rattle.demands.specs.Said as said
-use Rattle.demands.specs.Said.{Said, Shows}
+use Rattle.demands.specs.Called as calling
+use Rattle.demands.specs.Said.{Said}
 use Rattle.demands.specs.Ours.{Follows}
-use Rattle.demands.specs.Promised.{Refusal}
-use Rattle.demands.specs.Promised as table
+use Rattle.promised.specs.Refusals.{Refusal}
+use Rattle.promised.specs.Refusals as table
 use Rattle.demands.proofs.Started.{fresh-own}
-use Rattle.demands.proofs.Promised.{promises}
+use Rattle.promised.proofs.Promised.{promises}
 use Rattle.timing.specs.Runs.{Fits, Each, ticksIn, step}
 use Rattle.timing.specs.Timers.{mismerge, unexpected-level, unexpected-mep, unexpected-period, ais, lck, Timer, peer, of, Used, atStart, Sets, Unset}
 use Rattle.timing.specs.Time.{Beat, sends, quiet, shown, Told, told, Stands, Time}
@@ -122,8 +123,8 @@ module _ {t : Settings} {s : State} (H : Holds t s) where
   shown-flag (of lck) u w = w .lck
 
   told-line : (x : Timer) {P : Type 0} → Used t x → Runs x (timerOf x s) ↔ P → {o : Outcome} → Said s call.conditions o → Told x P (o .answer)
-  told-line x u e (said.conditions-2 n) = absurd (n (H .well))
-  told-line x u e (said.conditions-show r w h) = told r (flag-to (e .0) (e .1) (shown-flag x u h))
+  told-line x u e (said.by-call (calling.conditions-2 n)) = absurd (n (H .well))
+  told-line x u e (said.by-call (calling.conditions-show r w h)) = told r (flag-to (e .0) (e .1) (shown-flag x u h))
 
 -- ── any box ──
 
@@ -133,7 +134,7 @@ no-refusal w room (table.tick-3 b m e h) = omega (arith, room, h)
 
 module _ {B : Box} (F : Follows B) {t : Settings} (v : Valid t) where
   begins : (s : State) → B s (call.new-setting t) .state ≡ startOf t
-  begins s = ap (λ (o : Outcome). o .state) (F .follows s (call.new-setting t) _ tt (said.setting-starts t (startOf t) v (fresh-own t)))
+  begins s = ap (λ (o : Outcome). o .state) (F .follows s (call.new-setting t) _ tt (said.by-call (calling.setting-starts t (startOf t) v (fresh-own t))))
 
   pub at-start : Holds t (startOf t)
   at-start = record { same = refl; well = starts .well t v; eight = fresh-own t .slots-timers }

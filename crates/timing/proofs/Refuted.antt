@@ -10,7 +10,8 @@ use Rattle.whole.specs.Lists.{every, everyPair, distinct}
 use Rattle.clock.specs.Run.{after}
 use Rattle.period.specs.Periods.{ticksOf, holdOf}
 use Rattle.settings.specs.Settings.{Settings}
-use Rattle.settings.specs.Valid.{Valid, valid, peersGood}
+use Rattle.settings.specs.Valid.{Valid, valid}
+use Rattle.peerids.specs.Ids.{peersGood}
 use Rattle.settings.proofs.Rules.{valid-is}
 use Rattle.state.specs.State.{State}
 use Rattle.state.specs.Changed.{put, next}
@@ -19,13 +20,14 @@ use Rattle.start.specs.Start.{startOf, zeroState}
 use Rattle.start.proofs.Starts.{starts}
 use Rattle.demands.specs.Calls as call
 use Rattle.demands.specs.Calls.{Call, Answer, refused, written, done, Outcome, Box}
-use Rattle.demands.specs.Cases.{Flag, on, off}
+use Rattle.demands.specs.Standing.{Flag, on, off}
 use Rattle.demands.specs.Said as said
+use Rattle.demands.specs.Called as calling
 use Rattle.demands.specs.Said.{Said}
 use Rattle.demands.specs.Ours.{ours}
 use Rattle.demands.proofs.Follows.{ours-follows}
 use Rattle.demands.proofs.Started.{fresh-own}
-use Rattle.demands.proofs.Kept.{put-well}
+use Rattle.promised.proofs.Kept.{put-well}
 use Rattle.timing.specs.Runs.{Each, ticksIn, step, since}
 use Rattle.timing.specs.Timers.{Timer, peer, Used, Sets, Unset}
 use Rattle.timing.specs.Time.{Beat, sends, quiet, Told, told, Time}
@@ -117,7 +119,7 @@ short = put next (startOf setting .next - 1) (startOf setting)
 begins-short : early zeroState (call.new-setting setting) .state ≡ short
 begins-short =
     ap (λ (o : Outcome). put next (o .state .next - 1) (o .state))
-    (ours-follows .box .follows zeroState (call.new-setting setting) _ tt (said.setting-starts setting (startOf setting) good (fresh-own setting)))
+    (ours-follows .box .follows zeroState (call.new-setting setting) _ tt (said.by-call (calling.setting-starts setting (startOf setting) good (fresh-own setting))))
 
 short-well : WellFormed short
 unfolding setting ticksOf
@@ -125,10 +127,10 @@ short-well = put-well (startOf setting) next _ (record { own = λ h. absurd (ome
 
 sends-line : {b : List ℕ} {o : Outcome} → 89 ≤ length b → Said short (call.tick b) o → isSent (o .answer) ≡ true
 unfolding isSent setting ticksOf
-sends-line h (said.tick-2 b n) = absurd (n short-well)
-sends-line h (said.tick-lowers b w l) = absurd (omega (arith, l))
-sends-line h (said.tick-3 b w e l) = absurd (omega (arith, h, l))
-sends-line h (said.tick-sends b rdi w e l f) = refl
+sends-line h (said.by-call (calling.tick-2 b n)) = absurd (n short-well)
+sends-line h (said.by-call (calling.tick-lowers b w l)) = absurd (omega (arith, l))
+sends-line h (said.by-call (calling.tick-3 b w e l)) = absurd (omega (arith, h, l))
+sends-line h (said.by-call (calling.tick-sends b rdi w e l f)) = refl
 
 sends-short : isSent (ours short once .answer) ≡ true
 sends-short = by-paper (ours-follows .box) short once tt (λ o. isSent (o .answer) ≡ true) (λ o p. sends-line (omega arith) p)

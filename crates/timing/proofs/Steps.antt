@@ -19,15 +19,19 @@ use Rattle.settings.specs.Valid.{Valid}
 use Rattle.state.specs.State.{State}
 use Rattle.demands.specs.Calls as call
 use Rattle.demands.specs.Calls.{Call, Answer, Outcome, OnWire, Box}
-use Rattle.fields.specs.Fixed.{ccmIn}
-use Rattle.demands.specs.Cases.{pdu, hold, code}
+use Rattle.ccmfields.specs.Ccm.{ccmIn}
+use Rattle.demands.specs.Cases.{pdu, hold}
+use Rattle.demands.specs.Drops.{code}
 use Rattle.demands.specs.Said as said
+use Rattle.demands.specs.Judged as judging
+use Rattle.demands.specs.Handling as handling
+use Rattle.demands.specs.Called as calling
 use Rattle.demands.specs.Said.{Said}
 use Rattle.demands.specs.Ours.{Follows}
-use Rattle.demands.specs.Promised.{Refusal}
-use Rattle.demands.specs.Promised as table
+use Rattle.promised.specs.Refusals.{Refusal}
+use Rattle.promised.specs.Refusals as table
 use Rattle.demands.proofs.Every.{every-call}
-use Rattle.demands.proofs.Promised.{promises}
+use Rattle.promised.proofs.Promised.{promises}
 use Rattle.timing.specs.Runs.{Fits}
 use Rattle.timing.specs.Timers.{Timer, peer, of, Used, asked, Sets, Unset}
 use Rattle.timing.specs.Timers as sets
@@ -85,16 +89,16 @@ pub record Ticked (t : Settings) (s z : State) (r : Answer) : Type 0 where
 
 module _ {t : Settings} {s : State} (H : Holds t s) where
   tick-line : {b : List ℕ} {o : Outcome} → 89 ≤ length b → Said s (call.tick b) o → Ticked t s (o .state) (o .answer)
-  tick-line room (said.tick-2 b n) = absurd (n (H .well))
-  tick-line room (said.tick-lowers b w h) = record {
+  tick-line room (said.by-call (calling.tick-2 b n)) = absurd (n (H .well))
+  tick-line room (said.by-call (calling.tick-lowers b w h)) = record {
     settings = refl;
     slots = length-map (s .timers) (λ (n : ℕ). n - 1);
     next = rw (lt-leb (s .next) 1 h);
     timers = λ x. tick-lowers x (s .next - 1) s;
     answer = quiet (λ (l : s .next ≤ 1). omega (arith, l, h));
   }
-  tick-line room (said.tick-3 b w e h) = absurd (omega (arith, room, h))
-  tick-line room (said.tick-sends b rdi w e h f) = record {
+  tick-line room (said.by-call (calling.tick-3 b w e h)) = absurd (omega (arith, room, h))
+  tick-line room (said.by-call (calling.tick-sends b rdi w e h f)) = record {
     settings = refl;
     slots = length-map (s .timers) (λ (n : ℕ). n - 1);
     next = rw (e, H .same);
@@ -173,16 +177,16 @@ module _ {B : Box} (F : Follows B) where
     left x c o u p = ap (λ (z : Outcome). timerOf x (z .state)) (F .follows s c o u p)
 
     pub set-to : {x : Timer} {c : Call} {h : ℕ} → Fits c → Used t x → Sets t x c h → timerOf x (B s c .state) ≡ h
-    set-to f u (sets.lower-ccm a o e k g) = left (of sets.unexpected-level) _ _ f (said.rule-3-ccm a (oam-moves back (H .well) o) e (rw (H .same) k) (good-moves back g)) ∙ own
-    set-to f u (sets.other-meg a k m) = left (of sets.mismerge) _ _ f (said.rule-5-mismerge a (ccm-moves back (H .well) k) (λ e. m (rw (H .same) at e))) ∙ own
-    set-to f u (sets.no-peer a k m n) = left (of sets.unexpected-mep) _ _ f (said.rule-5-mep a (ccm-moves back (H .well) k) (rw (H .same) m) (λ i p. n i (peer-moves (H .same) p))) ∙ own
+    set-to f u (sets.lower-ccm a o e k g) = left (of sets.unexpected-level) _ _ f (said.by-rules-1-to-4 (judging.rule-3-ccm a (oam-moves back (H .well) o) e (rw (H .same) k) (good-moves back g))) ∙ own
+    set-to f u (sets.other-meg a k m) = left (of sets.mismerge) _ _ f (said.by-rules-5-to-8 (handling.rule-5-mismerge a (ccm-moves back (H .well) k) (λ e. m (rw (H .same) at e)))) ∙ own
+    set-to f u (sets.no-peer a k m n) = left (of sets.unexpected-mep) _ _ f (said.by-rules-5-to-8 (handling.rule-5-mep a (ccm-moves back (H .well) k) (rw (H .same) m) (λ i p. n i (peer-moves (H .same) p)))) ∙ own
     set-to f u (sets.from-peer a k p) =
         ⊎-elim
         (λ (e : eqb (code a) (s .settings .period) ≡ true).
-        left (peer k) _ _ f (said.rule-5-peer a k (from-moves back (H .well) p) (eqb-true _ _ e)) ∙ heard-own k (hold s) (ccmIn (pdu a) .rdi) s (rw (H .eight) (u .0)) ∙ own)
+        left (peer k) _ _ f (said.by-rules-5-to-8 (handling.rule-5-peer a k (from-moves back (H .well) p) (eqb-true _ _ e))) ∙ heard-own k (hold s) (ccmIn (pdu a) .rdi) s (rw (H .eight) (u .0)) ∙ own)
         (λ (e : eqb (code a) (s .settings .period) ≡ false).
-        left (peer k) _ _ f (said.rule-5-period a k (from-moves back (H .well) p) (eqb-false _ _ e)) ∙ heard-own k (hold s) (ccmIn (pdu a) .rdi) s (rw (H .eight) (u .0)) ∙ own)
+        left (peer k) _ _ f (said.by-rules-5-to-8 (handling.rule-5-period a k (from-moves back (H .well) p) (eqb-false _ _ e))) ∙ heard-own k (hold s) (ccmIn (pdu a) .rdi) s (rw (H .eight) (u .0)) ∙ own)
         (known (eqb (code a) (s .settings .period)))
-    set-to f u (sets.other-period a k p n) = left (of sets.unexpected-period) _ _ f (said.rule-5-period a k (from-moves back (H .well) p) (λ e. n (rw (H .same) at e))) ∙ own
-    set-to f u (sets.alarm a l q e o) = left (of sets.ais) _ _ f (said.rule-5-ais a (own-moves back (H .well) l) (sound-moves back q) e o)
-    set-to f u (sets.locked a l q e o) = left (of sets.lck) _ _ f (said.rule-5-lck a (own-moves back (H .well) l) (sound-moves back q) e o)
+    set-to f u (sets.other-period a k p n) = left (of sets.unexpected-period) _ _ f (said.by-rules-5-to-8 (handling.rule-5-period a k (from-moves back (H .well) p) (λ e. n (rw (H .same) at e)))) ∙ own
+    set-to f u (sets.alarm a l q e o) = left (of sets.ais) _ _ f (said.by-rules-5-to-8 (handling.rule-5-ais a (own-moves back (H .well) l) (sound-moves back q) e o))
+    set-to f u (sets.locked a l q e o) = left (of sets.lck) _ _ f (said.by-rules-5-to-8 (handling.rule-5-lck a (own-moves back (H .well) l) (sound-moves back q) e o))

@@ -7,7 +7,7 @@ use Rattle.settings.specs.Valid.{Valid}
 use Rattle.state.specs.State.{State}
 use Rattle.demands.specs.Calls as call
 use Rattle.demands.specs.Calls.{Call, Answer, Box}
-use Rattle.demands.specs.Cases.{Flag, on, off}
+use Rattle.demands.specs.Standing.{Flag, on, off}
 use Rattle.timing.specs.Runs.{Fits, Each, since}
 use Rattle.timing.specs.Timers.{Timer, Used}
 use Rattle.timing.specs.Time.{Beat, sends, quiet, Told, told, Time, LastSet, unset, split, Alike, alike, Tight}

@@ -10,7 +10,7 @@ use lib.ListN.{length, getD}
 use lib.Seq.{getD-set-same, getD-set-other}
 use borrow.Author.Tests.{eqb-true, eqb-false, ne-eqb}
 use Rattle.whole.proofs.Tests.{known}
-use Rattle.loss.specs.declared.LossSession.{LossSession}
+use Rattle.session.specs.declared.LossSession.{LossSession}
 use Rattle.state.specs.State.{State}
 use Rattle.state.specs.Changed.{Word, placeOf, anew, put, heard, withSession, lowered}
 use Rattle.state.specs.Changed as word

@@ -10,7 +10,7 @@ use Rattle.settings.specs.Valid.{Valid}
 use Rattle.state.specs.State.{State}
 use Rattle.state.specs.WellFormed.{WellFormed}
 use Rattle.demands.specs.Calls.{Call, tick, conditions, Answer, refused, written, done, standing, Raised, Box}
-use Rattle.demands.specs.Cases.{Flag}
+use Rattle.demands.specs.Standing.{Flag}
 use Rattle.demands.specs.Ours.{ours, Follows}
 use Rattle.timing.specs.Runs.{Fits, Each, ticksIn, since}
 use Rattle.timing.specs.Timers.{mismerge, unexpected-level, unexpected-mep, unexpected-period, ais, lck, Timer, peer, of, Used, atStart, Sets, Unset}

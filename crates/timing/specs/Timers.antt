@@ -7,9 +7,11 @@ use Rattle.period.specs.Periods.{holdOf}
 use Rattle.settings.specs.Settings.{Settings, slots}
 use Rattle.state.specs.State.{State}
 use Rattle.start.specs.Start.{startOf}
-use Rattle.fields.specs.Fixed.{ccmIn, megIn}
+use Rattle.ccmfields.specs.Ccm.{ccmIn, megIn}
 use Rattle.demands.specs.Calls.{active, Arrival, Call, frame}
-use Rattle.demands.specs.Cases.{pdu, opcode, level, OneOf, Oam, OwnLevel, Sound, code, GoodCcm, PeerAt, OwnCcm, FromPeer}
+use Rattle.demands.specs.Cases.{pdu, opcode, level, OneOf, Oam, OwnLevel}
+use Rattle.demands.specs.Drops.{Sound, code, GoodCcm}
+use Rattle.demands.specs.Taken.{PeerAt, OwnCcm, FromPeer}
 
 -- the six conditions that stand while their timer runs
 pub data Condition : Type 0 where

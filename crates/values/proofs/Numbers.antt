@@ -5,13 +5,14 @@ use mathlib.Core.Bool.{Bool, true, false}
 use mathlib.Core.List.{List, [], _∷_}
 use lib.Dec.{eqb}
 use Rattle.whole.specs.Tests.{choose}
-use Rattle.frame.specs.declared.reader.Bad.the-variants.{Length, Short, Opcode, Offset, CutOff}
-use Rattle.frame.specs.declared.reader.TlvAnswer.{TlvAnswer}
-use Rattle.frame.specs.declared.reader.TlvAnswer.the-variants as tlv
-use Rattle.frame.specs.declared.reader.TlvTold.{TlvTold}
-use Rattle.frame.specs.Reader.{answerOf}
-use Rattle.frame.specs.Told.{badOf, numbersOf, told as reader-told}
-use Rattle.frame.proofs.Numbers.{agree}
+use Rattle.reasons.specs.declared.Bad.the-variants.{Length, Short, Opcode, Offset, CutOff}
+use Rattle.reasons.specs.declared.TlvAnswer.{TlvAnswer}
+use Rattle.reasons.specs.declared.TlvAnswer.the-variants as tlv
+use Rattle.reasons.specs.declared.TlvTold.{TlvTold}
+use Rattle.reader.specs.Reader.{answerOf}
+use Rattle.reasons.specs.Told.{badOf, told as reader-told}
+use Rattle.reader.specs.Numbers.{numbersOf}
+use Rattle.reader.proofs.Numbers.{agree}
 use Rattle.values.specs.declared.ValueAnswer.{ValueAnswer}
 use Rattle.values.specs.declared.ValueAnswer.the-variants.{Holds, Differs, NoSuch, Bad}
 use Rattle.values.specs.declared.ValueTold.{ValueTold}

@@ -5,9 +5,10 @@ use mathlib.Core.List.{List}
 use mathlib.Core.Bool.{Bool, _&&_, cond}
 use lib.Dec.{eqb}
 use Rattle.whole.specs.Lists.{same}
-use Rattle.frame.specs.declared.reader.TlvTold.{TlvTold}
-use Rattle.frame.specs.Reader.{valueOf}
-use Rattle.frame.specs.Told.{badOf, numbersOf}
+use Rattle.reasons.specs.declared.TlvTold.{TlvTold}
+use Rattle.reader.specs.Reader.{valueOf}
+use Rattle.reasons.specs.Told.{badOf}
+use Rattle.reader.specs.Numbers.{numbersOf}
 use Rattle.values.specs.declared.ValueAnswer.{ValueAnswer}
 use Rattle.values.specs.declared.ValueAnswer.the-variants.{Holds, Differs, NoSuch, Bad}
 use Rattle.values.specs.declared.ValueTold.{ValueTold}

@@ -7,9 +7,9 @@ use mathlib.Core.Bool.{Bool, _&&_, cond}
 use lib.Dec.{eqb, ltb}
 use lib.ListN.{length}
 use Rattle.whole.specs.Lists.{every, same}
-use Rattle.frame.specs.declared.reader.TlvAnswer.{TlvAnswer}
-use Rattle.frame.specs.declared.reader.TlvAnswer.the-variants as tlv
-use Rattle.frame.specs.Reader.{valueOf, answerOf}
+use Rattle.reasons.specs.declared.TlvAnswer.{TlvAnswer}
+use Rattle.reasons.specs.declared.TlvAnswer.the-variants as tlv
+use Rattle.reader.specs.Reader.{valueOf, answerOf}
 use Rattle.values.specs.declared.ValueAnswer.{ValueAnswer}
 use Rattle.values.specs.declared.ValueAnswer.the-variants.{Holds, Differs, NoSuch, Bad}
 

@@ -1,12 +1,9 @@
 -- Two results that a contract allows are equal. Stated over `Reads.Post`, which the check reads off the source's own clauses. Assumes nothing.
 use mathlib.Core.Path.{_≡_, sym, _∙_}
-use denote.Ref.{now}
 use Rattle.words.proofs.all_within.Reads as all-within
 use Rattle.words.proofs.is_absent.Reads as is-absent
 use Rattle.words.proofs.all_distinct.Reads as all-distinct
 use Rattle.words.proofs.place_of.Reads as place-of
-use Rattle.words.proofs.zero_words.Reads as zero-words
-use Rattle.words.proofs.set_first.Reads as set-first
 
 pub all-within-one : (κs : _) (a : _) (r r′ : _) (s s′ : _) → all-within.Post κs a r s → all-within.Post κs a r′ s′ → r ≡ r′
 all-within-one κs a r r′ s s′ p q = p ∙ sym q
@@ -19,9 +16,3 @@ all-distinct-one κs a r r′ s s′ p q = p ∙ sym q
 
 pub place-of-one : (κs : _) (a : _) (r r′ : _) (s s′ : _) → place-of.Post κs a r s → place-of.Post κs a r′ s′ → r ≡ r′
 place-of-one κs a r r′ s s′ p q = p ∙ sym q
-
-pub zero-words-one : (κs : _) (a : _) (r r′ : _) (s s′ : _) → zero-words.Post κs a r s → zero-words.Post κs a r′ s′ → now (s .0) ≡ now (s′ .0)
-zero-words-one κs a r r′ s s′ p q = p ∙ sym q
-
-pub set-first-one : (κs : _) (a : _) (r r′ : _) (s s′ : _) → set-first.Post κs a r s → set-first.Post κs a r′ s′ → now (s .0) ≡ now (s′ .0)
-set-first-one κs a r r′ s s′ p q = p ∙ sym q

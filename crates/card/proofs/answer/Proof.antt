@@ -1,6 +1,6 @@
 -- `card::answer` meets its contract: the session's rule, and its answer told in numbers.
 use mathlib.Core.Path.{ap, ap₂, _∙_}
-use Rattle.loss.specs.declared.LossSession.{LossSession}
+use Rattle.session.specs.declared.LossSession.{LossSession}
 use Rattle.loss.specs.declared.LossTold.{LossTold}
 use Rattle.loss.specs.declared.Updated.{Updated}
 use borrow.Author.Needs.{needs}

@@ -1,8 +1,9 @@
 -- The session is read, updated by the rule, and put back. Assumes nothing.
 use mathlib.Core.Path.{_≡_, sym, ap, ap₂, _∙_}
 use denote.Ref.{now}
-use Rattle.loss.specs.declared.LossSession.{LossSession}
-use Rattle.loss.specs.Session.{readings, afterReading}
+use Rattle.session.specs.declared.LossSession.{LossSession}
+use Rattle.session.specs.Session.{readings}
+use Rattle.loss.specs.Reading.{afterReading}
 use Rattle.state.specs.State.{viewOf}
 use Rattle.change.specs.Change.{ended, taken}
 use borrow.Author.Needs.{needs}
@@ -11,7 +12,7 @@ use Rattle.change.proofs.take_counts.Tie as tie
 use Rattle.change.proofs.take_counts.Reads as reads
 use Rattle.change.proofs.take_counts.Lts as lts
 use Rattle.change.proofs.answer_of.Reads as answer-of-reads
-use Rattle.loss.proofs.take_reading.Reads as take-reading-reads
+use Rattle.lossstep.proofs.take_reading.Reads as take-reading-reads
 use Rattle.places.proofs.put_session.Reads as put-session-reads
 use Rattle.state.proofs.session_of.Reads as session-of-reads
 

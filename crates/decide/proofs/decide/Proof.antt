@@ -6,13 +6,13 @@ use lib.ListN.{length}
 use borrow.Author.Tests.{lt-ltb, le-ltb, lt-leb, le-leb, eq-eqb, ne-eqb, not-false, not-true}
 use mathlib.Core.List.{List}
 use Rattle.settings.specs.Settings.{Settings, settingsOf}
-use Rattle.delay.specs.declared.Stamp.{Stamp}
+use Rattle.stamps.specs.declared.Stamp.{Stamp}
 use Rattle.class.specs.declared.Side.{Side}
 use Rattle.class.specs.declared.Class.{Class}
 use Rattle.class.specs.Class.{classOf}
 use Rattle.class.proofs.Classes.{classes}
 use Prim.Native.Nat.{ℕ}
-use Rattle.decide.specs.declared.Decision.the-variants.{Changes}
+use Rattle.handle.specs.declared.Decision.the-variants.{Changes}
 use Rattle.decide.specs.Decide.{byClass, decideOf}
 use borrow.Author.Needs.{needs}
 use Rattle.decide.proofs.decide.Statement.{statement}

@@ -11,7 +11,7 @@ use lib.Seq.{length-take-le}
 use mathlib.Core.Bool.{Bool, cond}
 use Rattle.whole.specs.Lists.{part}
 use Rattle.frame.specs.Head.{destinationOf, sourceOf, pduOf, levelOf, opcodeOf}
-use Rattle.header.specs.Addresses.{inHead}
+use Rattle.parties.specs.Addresses.{inHead}
 use Rattle.settings.specs.Settings.{addressAt}
 use Rattle.ours.specs.Ours.{forUs}
 use Rattle.decide.specs.Decide.{isOurs}
@@ -21,9 +21,9 @@ use Rattle.decide.proofs.for_us.Tie as tie
 use Rattle.decide.proofs.for_us.Reads as reads
 use Rattle.decide.proofs.for_us.Lts as lts
 use Rattle.frame.proofs.head.pdu_of.Reads as pdu-of-reads
-use Rattle.header.proofs.destination.Reads as destination-reads
+use Rattle.parties.proofs.destination.Reads as destination-reads
 use Rattle.header.proofs.level.Reads as level-reads
-use Rattle.header.proofs.source.Reads as source-reads
+use Rattle.parties.proofs.source.Reads as source-reads
 use Rattle.ours.proofs.is_for_us.Reads as is-for-us-reads
 
 -- what was found is what the definition looks at

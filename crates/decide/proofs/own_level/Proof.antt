@@ -8,8 +8,9 @@ use Prim.Native.Nat.{ℕ, _≤_}
 use mathlib.Core.List.{List}
 use lib.ListN.{length-drop}
 use Rattle.settings.specs.Settings.{settingsOf}
-use Rattle.decide.specs.declared.Decision.the-variants.{Drops}
-use Rattle.decide.specs.Handle.{handleOf}
+use Rattle.handle.specs.declared.Decision.the-variants.{Drops}
+use Rattle.handle.specs.Handle.{handleOf}
+use Rattle.handle.proofs.Handled.{handled-whole}
 use Rattle.decide.proofs.Messages.{room}
 use Rattle.decide.proofs.Own.{handled-is, not-handled, found-bad, found-code, found-message}
 use borrow.Author.Needs.{needs}
@@ -19,7 +20,7 @@ use Rattle.decide.proofs.own_level.Reads as reads
 use Rattle.decide.proofs.own_level.Lts as lts
 use Rattle.decide.proofs.drop_for.Reads as drop-for-reads
 use Rattle.decide.proofs.for_us.Reads as for-us-reads
-use Rattle.decide.proofs.handle.Reads as handle-reads
+use Rattle.handle.proofs.handle_message.Reads as handle-message-reads
 use Rattle.frame.proofs.head.pdu_of.Reads as pdu-of-reads
 use Rattle.opcodes.proofs.rule_of.Reads as rule-of-reads
 use Rattle.opcodes.proofs.is_handled.Reads as is-handled-reads
@@ -64,9 +65,8 @@ enum-told c = search needs
 enum-known-found : tie.Need-enum-known-found
 enum-known-found c = search needs
 
-handle-requires : tie.Need-handle-requires
-handle-requires c κs = let f = now (c .before .before .before .before .before .before .before .before .before .before .before .before .args .frame) in
-    omega (arith, room f _ (sym (c .before .before .before .before .message-answer .ensures .0) ∙ c .before .before .found .given .1), ap length (c .before .before .before .before .before .before .before .before .before .before .pdu-of .ensures .0))
+handle-message-requires : tie.Need-handle-message-requires
+handle-message-requires c κs = search needs
 
 returns-2 : tie.Need-returns-2
 returns-2 c = let a = c .before .before .before .before .before .before .before .before .before .before .before .before .args in
@@ -90,7 +90,9 @@ returns-5 : tie.Need-returns-5
 returns-5 c = let a = c .before .before .before .before .before .before .before .before .before .before .before .before .before .args in
     let t = settingsOf (now (a .set)) (now (a .names)) (now (a .ids)) in
     let f = now (a .frame) in
-    c .handle .ensures ∙ ap (λ (p : List ℕ). handleOf t p (a .receive) (c .before .before .before .found .given .0 .0)) (c .before .before .before .before .before .before .before .before .before .before .before .pdu-of .ensures .0) ∙ sym (found-message t f (a .receive) (c .before .before .before .found .given .0 .0) ((handled-is f _ _ _ (c .before .before .before .before .before .before .before .before .before .before .before .pdu-of .ensures .0) (c .before .before .before .before .before .before .before .before .before .rule-of .ensures) (c .before .before .before .before .before .before .before .before .is-handled .ensures)) ∙ not-false _ (c .before .before .before .before .before .before .before .if1 .left)) (sym (c .before .before .before .before .before .message-answer .ensures .0) ∙ c .before .before .before .found .given .1) ∙ rw (sym (c .before .before .before .before .before .before .for-us .ensures) ∙ c .before .if3 .taken))
+    let pdu = c .before .before .before .before .before .before .before .before .before .before .before .pdu-of in
+    let whole = room f _ (sym (c .before .before .before .before .before .message-answer .ensures .0) ∙ c .before .before .before .found .given .1) in
+    c .handle-message .ensures ∙ handled-whole t (now (pdu .result)) (a .receive) (c .before .before .before .found .given .0 .0) (omega (arith, whole, ap length (pdu .ensures .0))) ∙ ap (λ (p : List ℕ). handleOf t p (a .receive) (c .before .before .before .found .given .0 .0)) (c .before .before .before .before .before .before .before .before .before .before .before .pdu-of .ensures .0) ∙ sym (found-message t f (a .receive) (c .before .before .before .found .given .0 .0) ((handled-is f _ _ _ (c .before .before .before .before .before .before .before .before .before .before .before .pdu-of .ensures .0) (c .before .before .before .before .before .before .before .before .before .rule-of .ensures) (c .before .before .before .before .before .before .before .before .is-handled .ensures)) ∙ not-false _ (c .before .before .before .before .before .before .before .if1 .left)) (sym (c .before .before .before .before .before .message-answer .ensures .0) ∙ c .before .before .before .found .given .1) ∙ rw (sym (c .before .before .before .before .before .before .for-us .ensures) ∙ c .before .if3 .taken))
 
 returns-6 : tie.Need-returns-6
 returns-6 c = let a = c .before .before .before .before .before .before .before .before .before .before .before .before .args in
@@ -113,7 +115,7 @@ own-level-spec =
     drop-for-requires
     enum-told
     enum-known-found
-    handle-requires
+    handle-message-requires
     returns-2
     returns-3
     returns-4

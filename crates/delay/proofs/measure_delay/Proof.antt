@@ -9,10 +9,10 @@ use mir.Val.{SFits}
 use borrow.Author.Needs.{needs}
 use borrow.Author.Tests.{not-true, not-false}
 use Rattle.whole.proofs.Stored.{back, fits-size}
-use Rattle.delay.specs.declared.Stamp.{Stamp}
+use Rattle.stamps.specs.declared.Stamp.{Stamp}
 use Rattle.delay.specs.declared.DelayAnswer.{DelayAnswer}
 use Rattle.delay.specs.declared.DelayAnswer.the-variants.{TwoWay, AllWays}
-use Rattle.delay.specs.Stamps.{usable}
+use Rattle.delay.specs.Used.{usable}
 use Rattle.delay.specs.Delays.{delaysOf}
 use Rattle.delay.specs.Told.{told, numbersOf}
 use Rattle.delay.proofs.Laws.{furthest, stay-size, delays-bad, delays-two, delays-all}

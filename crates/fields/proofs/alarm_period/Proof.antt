@@ -10,7 +10,7 @@ use mathlib.Core.Bool.{true, false}
 use Rattle.frame.specs.Head.{pduOf, flagsOf}
 use Rattle.incoming.specs.Message.{periodCode}
 use Rattle.fields.specs.Fixed.{alarmOf}
-use Rattle.fields.proofs.There.{two, either}
+use Rattle.incoming.proofs.There.{two, either}
 use borrow.Author.Needs.{needs}
 use Rattle.fields.proofs.alarm_period.Statement.{statement}
 use Rattle.fields.proofs.alarm_period.Tie as tie

@@ -7,9 +7,9 @@ use denote.Ref.{now}
 use Rattle.whole.specs.Tests.{choose}
 use Rattle.opcodes.specs.Opcodes.{ruleOf}
 use mathlib.Core.Bool.{true, false}
-use Rattle.frame.specs.Head.{pduOf}
-use Rattle.fields.specs.Fixed.{word, transactionOf}
-use Rattle.fields.proofs.There.{two, either}
+use Rattle.frame.specs.Head.{pduOf, word}
+use Rattle.fields.specs.Fixed.{transactionOf}
+use Rattle.incoming.proofs.There.{two, either}
 use borrow.Author.Needs.{needs}
 use Rattle.fields.proofs.transaction.Statement.{statement}
 use Rattle.fields.proofs.transaction.Tie as tie

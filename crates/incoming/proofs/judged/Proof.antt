@@ -4,8 +4,8 @@ use Prim.Native.Nat.{ℕ}
 use mathlib.Core.Path.{_≡_, sym, ap, _∙_}
 use Rattle.opcodes.specs.declared.Rule.{Rule}
 use Rattle.opcodes.specs.Opcodes.{ruleOf}
-use Rattle.incoming.specs.declared.MessageAnswer.{MessageAnswer}
-use Rattle.incoming.specs.declared.MessageAnswer.the-variants.{Message, PeriodCode}
+use Rattle.kinds.specs.declared.MessageAnswer.{MessageAnswer}
+use Rattle.kinds.specs.declared.MessageAnswer.the-variants.{Message, PeriodCode}
 use Rattle.incoming.specs.Message.{periodCode, codeGood, judgedOf}
 use borrow.Author.Needs.{needs}
 use Rattle.incoming.proofs.judged.Statement.{statement}

@@ -5,7 +5,7 @@ use Prim.Native.Nat.{ℕ}
 use native.Mathlib.Omega.{arith}
 use lib.ListN.{getD}
 use denote.Ref.{now}
-use Rattle.frame.specs.declared.reader.TlvAnswer.{TlvAnswer}
+use Rattle.reasons.specs.declared.TlvAnswer.{TlvAnswer}
 use Rattle.frame.specs.Head.{pduOf, opcodeOf, flagsOf}
 use Rattle.incoming.specs.Message.{judgedOf, unlessBad, messageOf}
 use Rattle.incoming.proofs.Goods.{headed}
@@ -14,7 +14,7 @@ use borrow.Author.Needs.{needs}
 use Rattle.incoming.proofs.message_answer.Statement.{statement}
 use Rattle.incoming.proofs.message_answer.Tie as tie
 use Rattle.frame.proofs.head.pdu_of.Reads as pdu-of-reads
-use Rattle.frame.proofs.reader.tlv_answer.Reads as tlv-answer-reads
+use Rattle.reader.proofs.tlv_answer.Reads as tlv-answer-reads
 use Rattle.incoming.proofs.judged.Reads as judged-reads
 
 pdu-of-requires : tie.Need-pdu-of-requires

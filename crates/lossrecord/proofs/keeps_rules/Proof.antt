@@ -1,6 +1,6 @@
 -- `lossrecord::keeps_rules` meets its contract: the rules of the session that it makes.
 use mathlib.Core.Path.{ap, _∙_}
-use Rattle.loss.specs.Session.{wellFormed}
+use Rattle.session.specs.Session.{wellFormed}
 use borrow.Author.Needs.{needs}
 use Rattle.lossrecord.proofs.keeps_rules.Statement.{statement}
 use Rattle.lossrecord.proofs.keeps_rules.Tie as tie

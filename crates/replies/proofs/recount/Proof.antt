@@ -8,7 +8,7 @@ use mathlib.Core.Bool.{true}
 use lib.ListN.{length}
 use borrow.Author.Tests.{not-true, not-false}
 use borrow.Author.Needs.{needs}
-use Rattle.loss.specs.Session.{wellFormed}
+use Rattle.session.specs.Session.{wellFormed}
 use Rattle.replies.specs.declared.Recounted.{Recounted}
 use Rattle.replies.specs.Recount.{ended}
 use Rattle.replies.proofs.Turns.{ends-not-well, ends-no-room, SoFar, at-start, at-end, turn-stops, turn-kept, turn-room, turn-goes}

@@ -1,8 +1,8 @@
--- `settingsrecord::read_settings` meets its contract: one law for each way that it ends.
+-- `settingsrecord::read_settings` meets its contract: the body is copied as it stands, and there is one law for each way that it ends.
 use mathlib.Core.Path.{_∙_}
 use denote.Ref.{now}
 use Rattle.whole.specs.Lists.{part}
-use Rattle.settingsrecord.proofs.Records.{ends-head, long-enough, ends-rule, ends-given}
+use Rattle.settingsrecord.proofs.Records.{ends-head, long-enough, copied, ends-rule, ends-given}
 use borrow.Author.Needs.{needs}
 use Rattle.settingsrecord.proofs.read_settings.Statement.{statement}
 use Rattle.settingsrecord.proofs.read_settings.Tie as tie
@@ -18,21 +18,27 @@ returns c = let w = c .before .before in
     let a = w .before .before .args in
     c .none .ensures ∙ ends-head (now (a .from)) (w .is-record .ensures) (c .before .if1 .taken)
 
-add-settings-in : tie.Need-add-settings-in
-add-settings-in c = search needs
+slice-aggregate-copy-octets : tie.Need-slice-aggregate-copy-octets
+slice-aggregate-copy-octets c = search needs
 
-sub-settings-in : tie.Need-sub-settings-in
-sub-settings-in c = search needs
+add-copy-octets : tie.Need-add-copy-octets
+add-copy-octets c = search needs
 
-part-settings-in-start : tie.Need-part-settings-in-start
-part-settings-in-start c = search needs
+sub-copy-octets : tie.Need-sub-copy-octets
+sub-copy-octets c = search needs
 
-part-settings-in-end : tie.Need-part-settings-in-end
-part-settings-in-end c =
-    long-enough (now (c .before .before .before .args .from)) (c .before .is-record .ensures) (c .if1 .left)
+part-copy-octets-start : tie.Need-part-copy-octets-start
+part-copy-octets-start c = search needs
 
-settings-in-requires : tie.Need-settings-in-requires
-settings-in-requires c κs = search needs
+part-copy-octets-end : tie.Need-part-copy-octets-end
+part-copy-octets-end c =
+    long-enough (now (c .before .before .before .before .args .from)) (c .before .before .is-record .ensures) (c .before .if1 .left)
+
+copy-octets-requires : tie.Need-copy-octets-requires
+copy-octets-requires c κs = search needs
+
+settings-of-requires : tie.Need-settings-of-requires
+settings-of-requires c κs = search needs
 
 is-valid-requires : tie.Need-is-valid-requires
 is-valid-requires c κs = search needs
@@ -42,16 +48,18 @@ none-requires-2 c κs = search needs
 
 returns-2 : tie.Need-returns-2
 unfolding part
-returns-2 c = let w = c .before .before .before .before .before .before .before .before .before .before .before in
-    let a = w .before .before .before .args in
+returns-2 c = let w = c .before .before .before .before .before .before .before .before .before .before .before .before .before .before .before in
+    let k = c .before .before .before .before .before .before .before .before .before in
+    let from = now (w .before .before .before .args .from) in
     c .none2 .ensures
-    ∙ ends-rule (now (a .from)) (w .before .is-record .ensures) (w .if1 .left) (c .before .before .before .before .before .before .before .before .before .settings-in .ensures) (c .before .before .is-valid .ensures) (c .before .if2 .taken)
+    ∙ ends-rule from (w .before .is-record .ensures) (w .if1 .left) (k .settings-of .ensures) (copied from (w .before .is-record .ensures) (w .if1 .left) (k .before .before .before .copy-octets .ensures)) (c .before .before .is-valid .ensures) (c .before .if2 .taken)
 
 returns-3 : tie.Need-returns-3
 unfolding part
-returns-3 c = let w = c .before .before .before .before .before .before .before .before .before .before in
-    let a = w .before .before .before .args in
-    ends-given (now (a .from)) (w .before .is-record .ensures) (w .if1 .left) (c .before .before .before .before .before .before .before .before .settings-in .ensures) (c .before .is-valid .ensures) (c .if2 .left)
+returns-3 c = let w = c .before .before .before .before .before .before .before .before .before .before .before .before .before .before in
+    let k = c .before .before .before .before .before .before .before .before in
+    let from = now (w .before .before .before .args .from) in
+    ends-given from (w .before .is-record .ensures) (w .if1 .left) (k .settings-of .ensures) (copied from (w .before .is-record .ensures) (w .if1 .left) (k .before .before .before .copy-octets .ensures)) (c .before .is-valid .ensures) (c .if2 .left)
 
 pub read-settings-spec : {M : Type 1} → statement M
 read-settings-spec =
@@ -60,11 +68,13 @@ read-settings-spec =
     is-record-requires
     none-requires
     returns
-    add-settings-in
-    sub-settings-in
-    part-settings-in-start
-    part-settings-in-end
-    settings-in-requires
+    slice-aggregate-copy-octets
+    add-copy-octets
+    sub-copy-octets
+    part-copy-octets-start
+    part-copy-octets-end
+    copy-octets-requires
+    settings-of-requires
     is-valid-requires
     none-requires-2
     returns-2

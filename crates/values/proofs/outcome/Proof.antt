@@ -1,7 +1,7 @@
 -- `values::outcome` meets its contract, case by case.
 use mathlib.Core.Path.{refl, sym, ap, ap₂}
 use borrow.Author.Needs.{needs}
-use Rattle.frame.specs.declared.reader.TlvAnswer.{TlvAnswer}
+use Rattle.reasons.specs.declared.TlvAnswer.{TlvAnswer}
 use Rattle.values.specs.Values.{outcomeOf}
 use Rattle.values.proofs.outcome.Statement.{statement}
 use Rattle.values.proofs.outcome.Tie as tie

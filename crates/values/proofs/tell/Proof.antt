@@ -1,8 +1,8 @@
 -- `values::tell` meets its contract, case by case; a bad frame's numbers are the reader's.
 use mathlib.Core.Path.{sym, ap, _∙_}
 use borrow.Author.Needs.{needs}
-use Rattle.frame.specs.declared.reader.TlvTold.{TlvTold}
-use Rattle.frame.specs.Told.{told as reader-told}
+use Rattle.reasons.specs.declared.TlvTold.{TlvTold}
+use Rattle.reasons.specs.Told.{told as reader-told}
 use Rattle.values.specs.Told.{numbers, told}
 use Rattle.values.proofs.tell.Statement.{statement}
 use Rattle.values.proofs.tell.Tie as tie

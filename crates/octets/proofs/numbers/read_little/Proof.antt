@@ -6,7 +6,6 @@ use denote.Ref.{now}
 use Rattle.whole.specs.Lists.{part}
 use Rattle.octets.specs.Numbers.{number, littleEndian}
 use Rattle.octets.proofs.Turns.{down-start, down-turn, more-below, most-below}
-use Rattle.octets.proofs.Turns.{more-below, most-below}
 use Rattle.octets.proofs.numbers.read_little.Statement.{statement}
 use Rattle.octets.proofs.numbers.read_little.Tie as tie
 

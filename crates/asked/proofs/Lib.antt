@@ -1,4 +1,0 @@
-pub mod Written
-pub mod Lmm
-pub mod Dmm
-pub mod One

@@ -1,3 +1,0 @@
-pub mod Told
-pub mod Lmm
-pub mod Dmm

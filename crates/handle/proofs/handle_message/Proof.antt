@@ -1,0 +1,32 @@
+-- The test that was made is the definition's. Assumes nothing.
+use mathlib.Core.Path.{_≡_, sym, _∙_}
+use native.Mathlib.Omega.{arith}
+use denote.Ref.{now}
+use lib.ListN.{length}
+use borrow.Author.Tests.{lt-ltb}
+use Rattle.settings.specs.Settings.{settingsOf}
+use Rattle.handle.specs.Handle.{roomFor}
+use Rattle.handle.proofs.Handled.{handled-whole}
+use borrow.Author.Needs.{needs}
+use Rattle.handle.proofs.handle_message.Statement.{statement}
+use Rattle.handle.proofs.handle_message.Tie as tie
+use Rattle.handle.proofs.handle.Reads as handle-reads
+use Rattle.handle.proofs.room_for.Reads as room-for-reads
+
+room-for-requires : tie.Need-room-for-requires
+room-for-requires c κs = search needs
+
+returns : tie.Need-returns
+returns c = let a = c .before .before .before .args in
+    rw (lt-ltb (length (now (a .pdu))) (roomFor (a .handler)) (omega (arith, c .if1 .taken, c .before .room-for .ensures)))
+
+handle-requires : tie.Need-handle-requires
+handle-requires c κs = search needs
+
+returns-2 : tie.Need-returns-2
+returns-2 c = let a = c .before .before .before .before .args in
+    let t = settingsOf (now (a .set)) (now (a .names)) (now (a .ids)) in
+    c .handle .ensures ∙ sym (handled-whole t (now (a .pdu)) (a .receive) (a .handler) (omega (arith, c .before .if1 .left, c .before .before .room-for .ensures)))
+
+pub handle-message-spec : {M : Type 1} → statement M
+handle-message-spec = tie.close (tie.spec room-for-requires returns handle-requires returns-2)

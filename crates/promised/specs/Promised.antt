@@ -1,0 +1,58 @@
+-- What holds of every box that follows the paper: no call is without a word, refusals by the table, what refusals and drops leave, that a state
+-- stays well formed, and that OAM frames are never counted. Definitions and the statements only.
+use Prim.Native.Nat.{ℕ}
+use mathlib.Core.Path.{_≡_}
+use mathlib.Core.Logic.{_↔_}
+use Rattle.state.specs.State.{State}
+use Rattle.state.specs.Changed.{put}
+use Rattle.state.specs.Changed as word
+use Rattle.state.specs.WellFormed.{WellFormed}
+use Rattle.frame.specs.Head.{etherTypeOf}
+use Rattle.ccmfields.specs.Ccm.{ccmIn, megIn}
+use Rattle.demands.specs.Calls.{Arrival, Call, frame, refused, dropped, taken, Outcome, leaves, OnWire, Box}
+use Rattle.demands.specs.Cases.{pdu, hold}
+use Rattle.demands.specs.Taken.{OwnCcm}
+use Rattle.demands.specs.Started.{AllZero}
+use Rattle.demands.specs.Said.{Said}
+use Rattle.demands.specs.Ours.{Follows}
+use Rattle.promised.specs.Refusals.{Refusal, Remembered, handed}
+
+-- ── what is said of a box that follows the paper ──
+
+pub record Promised (B : Box) : Type 0 where
+  -- each number exactly where its line holds and no earlier one of the order does; a number that a call's lines do not have is never given
+  pub refuses : (s : State) (c : Call) (n : ℕ) → OnWire c → (B s c .answer ≡ refused n) ↔ Refusal s c n
+  -- a refused call leaves state and buffer the same, whatever they held; but a refused setting hands out the all-zero state
+  pub left : (s : State) (c : Call) (n : ℕ) → OnWire c → B s c .answer ≡ refused n → (n ≡ 4 → ⊥) → (B s c .state ≡ s) × (B s c .buffer ≡ handed c)
+  pub left-4 : (s : State) (c : Call) → OnWire c → B s c .answer ≡ refused 4 → AllZero (B s c .state) × (B s c .buffer ≡ handed c)
+  -- a drop writes nothing, and changes nothing but the timer of rule 3, and that only there
+  pub drops : (s : State) (c : Call) (n : ℕ) → OnWire c → B s c .answer ≡ dropped n → (Remembered s c → ⊥) → (B s c .state ≡ s) × (B s c .buffer ≡ handed c)
+  pub remembers : (s : State) (c : Call) → OnWire c → Remembered s c → B s c ≡ leaves (dropped 2) (put word.unexpected-level (hold s) s) (handed c)
+  -- a well-formed state stays so, but for a refused setting
+  pub stays : (s : State) (c : Call) → OnWire c → WellFormed s → (B s c .answer ≡ refused 4 → ⊥) → WellFormed (B s c .state)
+  -- OAM frames never change the service counts
+  pub uncounted : (s : State) (a : Arrival) → OnWire (frame a) → etherTypeOf (a .octets) ≡ 0x8902 → (B s (frame a) .state .sent ≡ s .sent) × (B s (frame a) .state .received ≡ s .received)
+  -- D8 is never given: no stamps of the wire are so far apart
+  pub never-D8 : (s : State) (a : Arrival) → OnWire (frame a) → B s (frame a) .answer ≡ dropped 8 → ⊥
+  -- a CCM of our MEG with our own MEP ID is an unexpected MEP
+  pub own-id : (s : State) (a : Arrival) → OnWire (frame a) → OwnCcm s a → megIn (pdu a) ≡ s .settings .meg → ccmIn (pdu a) .mep ≡ s .settings .mep
+      → B s (frame a) ≡ leaves taken (put word.unexpected-mep (hold s) s) (a .buffer)
+
+pub record Promises : Type 0 where
+  -- the paper says something of every call, and never two things
+  pub says : (s : State) (c : Call) → OnWire c → (o : Outcome) × Said s c o
+  pub agrees : (s : State) (c : Call) (o p : Outcome) → OnWire c → Said s c o → Said s c p → o ≡ p
+  -- so two boxes that follow it leave the same of every state at every call
+  pub same-box : (B C : Box) → Follows B → Follows C → (s : State) (c : Call) → OnWire c → B s c ≡ C s c
+  -- and all of the above holds of each of them
+  pub kept : (B : Box) → Follows B → Promised B
+
+-- ── boxes that do not follow the paper ──
+
+pub record ShutOut : Type 0 where
+  -- one that refuses everything
+  pub refuses-all : (B : Box) → Follows B → ((s : State) (c : Call) → (n : ℕ) × (B s c .answer ≡ refused n)) → ⊥
+  -- one with a fixed result, whatever it is
+  pub fixed : (B : Box) (o : Outcome) → Follows B → ((s : State) (c : Call) → B s c ≡ o) → ⊥
+  -- one that touches nothing
+  pub touches-nothing : (B : Box) → Follows B → ((s : State) (c : Call) → B s c .state ≡ s) → ⊥

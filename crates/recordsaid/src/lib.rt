@@ -1,0 +1,1 @@
+// The paper's lines on stored records, as a relation, and that our functions follow them. No code.

@@ -1,0 +1,2 @@
+pub mod Dmm
+pub mod One

@@ -1,0 +1,2 @@
+pub mod Lmm
+pub mod One

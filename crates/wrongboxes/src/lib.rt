@@ -1,0 +1,1 @@
+// No code: this crate holds boxes that demand 3 shuts out.

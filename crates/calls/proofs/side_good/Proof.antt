@@ -1,0 +1,22 @@
+-- `calls::side_good` meets its contract, by its two tests.
+use native.Mathlib.Omega.{arith}
+use denote.Ref.{now}
+use Rattle.calls.proofs.Calls.{side-other, side-cut, side-there}
+use borrow.Author.Needs.{needs}
+use Rattle.calls.proofs.side_good.Statement.{statement}
+use Rattle.calls.proofs.side_good.Tie as tie
+
+returns : tie.Need-returns
+returns c = side-other (now (c .before .before .args .call)) (c .before .before .args .number) (c .if1 .taken)
+
+returns-2 : tie.Need-returns-2
+returns-2 c = side-cut (now (c .before .before .before .args .call)) (c .before .before .before .args .number) (omega arith) (omega arith)
+
+octet-requires : tie.Need-octet-requires
+octet-requires c κs = search needs
+
+returns-3 : tie.Need-returns-3
+returns-3 c = rw (c .octet .ensures .is) (side-there (now (c .before .before .before .before .args .call)) (c .before .before .before .before .args .number) (omega arith) (omega arith))
+
+pub side-good-spec : {M : Type 1} → statement M
+side-good-spec = tie.close (tie.spec returns returns-2 octet-requires returns-3)

@@ -1,0 +1,93 @@
+-- Recorded calls, framed as stored records are: little-endian, a two-octet length of all that follows it, from 2 to 2,000, a two-octet call
+-- number, the body. Any other length, an unknown number, a body of a wrong length, a side above 1 or a buffer above 1,600 is a bad call.
+-- Definitions and the statement only.
+use Prim.Native.Nat.{ℕ, _+_, _-_, _≤_, _<_}
+use mathlib.Core.Path.{_≡_}
+use mathlib.Core.Bool.{Bool, true, false, _&&_, not, cond}
+use mathlib.Core.List.{List, [], _∷_}
+use mathlib.Core.Logic.{_↔_, _⊎_}
+use lib.Dec.{eqb, ltb, leb}
+use lib.ListN.{length, getD}
+use Rattle.whole.specs.Tests.{choose}
+use Rattle.whole.specs.Lists.{part}
+use Rattle.octets.specs.Numbers.{littleEndian, number}
+
+-- ── the table of calls, from number 257 on: new setting, frame, tick, clear, send LMM, send DMM, put and show a state, ask a TLV, put and measure on
+-- the lent session, read and write a settings record, read and write a loss line, conditions ──
+
+-- the fewest and the most octets of the body
+abbrev pub fewest : List ℕ
+fewest = 81 ∷ 19 ∷ 2 ∷ 0 ∷ 2 ∷ 10 ∷ 194 ∷ 0 ∷ 1 ∷ 37 ∷ 16 ∷ 0 ∷ 83 ∷ 0 ∷ 22 ∷ 0 ∷ []
+
+abbrev pub most : List ℕ
+most = 81 ∷ 1998 ∷ 2 ∷ 0 ∷ 2 ∷ 10 ∷ 194 ∷ 0 ∷ 1998 ∷ 37 ∷ 16 ∷ 1998 ∷ 83 ∷ 1998 ∷ 22 ∷ 0 ∷ []
+
+-- where behind the call's length the buffer's stands, in two octets; 0 for a call that hands over none
+abbrev pub places : List ℕ
+places = 0 ∷ 3 ∷ 2 ∷ 0 ∷ 2 ∷ 2 ∷ 0 ∷ 0 ∷ 0 ∷ 0 ∷ 0 ∷ 0 ∷ 2 ∷ 0 ∷ 2 ∷ 0 ∷ []
+
+-- the row of a number; 16, which has none, for one that is no call's
+unfoldable pub rowOf : ℕ → ℕ
+rowOf n = cond (ltb n 257) 16 (cond (ltb 272 n) 16 (n - 257))
+
+unfoldable pub placeOf : ℕ → ℕ
+placeOf n = cond (leb 16 (rowOf n)) 0 (getD places (rowOf n) 0)
+
+-- ── what is tested ──
+
+-- the number in a call's first two octets: without its length that is the call's number
+abbrev pub frontNumber : List ℕ → ℕ
+frontNumber octets = number littleEndian (part 0 2 octets)
+
+-- the length that they tell, 0 where no call is so long
+unfoldable pub callLength : List ℕ → ℕ
+callLength head = choose ((ltb (frontNumber head) 2, 0) ∷ (ltb 2000 (frontNumber head), 0) ∷ []) (frontNumber head)
+
+-- a call of this number hands over a part of the buffer
+unfoldable pub handsOver : ℕ → Bool
+handsOver n = ltb 0 (placeOf n)
+
+-- the length of that part; 0 where there is none
+unfoldable pub roomAt : ℕ → List ℕ → ℕ
+roomAt place call = choose ((eqb place 0, 0) ∷ (ltb (length call - 2) place, 0) ∷ []) (number littleEndian (part place 2 call))
+
+unfoldable pub roomOf : List ℕ → ℕ
+roomOf call = cond (ltb (length call) 2) 0 (roomAt (placeOf (frontNumber call)) call)
+
+-- its number is known, and its body has n octets
+unfoldable pub bodyGood : ℕ → ℕ → Bool
+bodyGood which n = cond (leb 16 (rowOf which)) false (leb (getD fewest (rowOf which) 0) n && leb n (getD most (rowOf which) 0))
+
+-- the side of a frame is 0 or 1
+unfoldable pub sideGood : ℕ → List ℕ → Bool
+sideGood which call = choose ((not (eqb which 258), true) ∷ (ltb (length call) 3, true) ∷ []) (leb (getD call 2 0) 1)
+
+-- all of it
+unfoldable pub isCall : List ℕ → Bool
+isCall call =
+    cond (ltb (length call) 2) false (bodyGood (frontNumber call) (length call - 2) && sideGood (frontNumber call) call && leb (roomOf call) 1600)
+
+-- ── what is meant ──
+
+-- a call without its length
+pub record IsCall (call : List ℕ) : Type 0 where
+  pub numbered : 2 ≤ length call
+  pub known : (257 ≤ frontNumber call) × (frontNumber call ≤ 272)
+  -- its body is as long as the call's row says
+  pub enough : getD fewest (rowOf (frontNumber call)) 0 + 2 ≤ length call
+  pub few : length call ≤ getD most (rowOf (frontNumber call)) 0 + 2
+  -- the side of a frame, and the buffer
+  pub side : frontNumber call ≡ 258 → getD call 2 0 ≤ 1
+  pub room : roomOf call ≤ 1600
+
+-- what is said of every call
+pub record Calls : Type 0 where
+  -- what is tested is what is meant
+  pub good : (call : List ℕ) → (isCall call ≡ true) ↔ IsCall call
+  -- a length from 2 to 2,000 is told as it stands, and no other
+  pub told : (head : List ℕ) → 2 ≤ frontNumber head → frontNumber head ≤ 2000 → callLength head ≡ frontNumber head
+  pub bad : (head : List ℕ) → (callLength head ≡ 0) ↔ ((frontNumber head < 2) ⊎ (2000 < frontNumber head))
+  -- the six calls that hand over a part of the buffer, and no other does
+  pub six : (n : ℕ) → (handsOver n ≡ true) ↔ ((n ≡ 258) ⊎ (n ≡ 259) ⊎ (n ≡ 261) ⊎ (n ≡ 262) ⊎ (n ≡ 269) ⊎ (n ≡ 271))
+  -- the length of a frame's part stands behind its side, that of any other right behind the number
+  pub frame-room : placeOf 258 ≡ 3

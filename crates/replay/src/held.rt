@@ -1,0 +1,61 @@
+// What is held from call to call.
+use session::LossSession;
+use session::cleared;
+use settings::PEERS;
+use stateoctets::StateArrays;
+
+// The state and the lent session.
+pub(crate) struct Held {
+    pub(crate) state: StateArrays,
+    pub(crate) session: LossSession,
+}
+
+// What is held behind a call, and how long its line is so far.
+pub(crate) struct Ran {
+    pub(crate) held: Held,
+    pub(crate) length: usize,
+}
+
+// A state of zeros.
+fn zeros() -> StateArrays {
+    StateArrays {
+        set: [0; 4],
+        names: [0; 60],
+        ids: [0; PEERS],
+        timers: [0; PEERS],
+        rdi: [0; PEERS],
+        run: [0; 15],
+        totals: [0; 2],
+    }
+}
+
+// What is held before the first call.
+pub(crate) fn nothing() -> Held {
+    Held {
+        state: zeros(),
+        session: cleared(),
+    }
+}
+
+// A call that left what is held as it was.
+pub(crate) fn looked(held: Held, length: usize) -> Ran {
+    Ran { held, length }
+}
+
+// A call that left this state.
+pub(crate) fn stepped(held: Held, state: StateArrays, length: usize) -> Ran {
+    let session = held.session;
+    Ran {
+        held: Held { state, session },
+        length,
+    }
+}
+
+// A call that left this session.
+pub(crate) fn measured(held: Held, session: LossSession, length: usize) -> Ran {
+    let state = held.state;
+    Ran {
+        held: Held { state, session },
+        length,
+    }
+}

@@ -1,0 +1,84 @@
+// The calls that take no state: the reader, and stored records.
+use crate::body::rest;
+use crate::body::settings_to_write;
+use crate::line::number;
+use crate::line::octets;
+use crate::line::said;
+use crate::line::sent;
+use calls::MOST;
+use lossrecord::LossLine;
+use lossrecord::read_line;
+use lossrecord::write_line;
+use octets::numbers::read_little;
+use octets::numbers::read_little_signed;
+use reader::tlv_answer;
+use reader::tlv_value;
+use settingsoctets::body_of;
+use settingsrecord::read_settings;
+use settingsrecord::write_settings;
+use spelling::write_word;
+
+// 265: what the reader says of a TLV.
+pub(crate) fn ask_tlv(call: &[u8; MOST], n: usize, line: &mut [u8]) -> usize {
+    let kind = call[2];
+    let frame = rest(call, 3, n);
+    let told = reasons::tell(tlv_answer(frame, kind));
+    if told.refusal != 0 {
+        return said(line, b"refused", told.refusal as i64);
+    }
+    if told.drop != 0 {
+        return said(line, b"dropped", told.drop as i64);
+    }
+    if told.value == 0 {
+        return write_word(line, 0, b"none");
+    }
+    let at = write_word(line, 0, b"value");
+    octets(line, at, tlv_value(frame, kind))
+}
+
+// 268: the settings of a stored record.
+pub(crate) fn run_read_settings(call: &[u8; MOST], n: usize, line: &mut [u8]) -> usize {
+    let read = read_settings(rest(call, 2, n));
+    if read.refusal != 0 {
+        return said(line, b"refused", read.refusal as i64);
+    }
+    let set = read.set;
+    let names = read.names;
+    let ids = read.ids;
+    let body = body_of(&set, &names, &ids);
+    let at = write_word(line, 0, b"settings");
+    octets(line, at, &body)
+}
+
+// 269: a stored record of settings.
+pub(crate) fn run_write_settings(call: &[u8; MOST], out: &mut [u8], line: &mut [u8]) -> usize {
+    let read = settings_to_write(call);
+    let set = read.set;
+    let names = read.names;
+    let ids = read.ids;
+    let told = record::tell(write_settings(out, &set, &names, &ids));
+    sent(line, told.refusal, told.length)
+}
+
+// 270: a stored loss line.
+pub(crate) fn run_read_line(call: &[u8; MOST], n: usize, line: &mut [u8]) -> usize {
+    let told = lossrecord::tell(read_line(rest(call, 2, n)));
+    if told.refusal != 0 {
+        return said(line, b"refused", told.refusal as i64);
+    }
+    let first = said(line, b"line", told.intervals as i64);
+    let second = number(line, first, told.near);
+    number(line, second, told.far)
+}
+
+// 271: a stored loss line written.
+pub(crate) fn run_write_line(call: &[u8; MOST], out: &mut [u8], line: &mut [u8]) -> usize {
+    let all: &[u8] = call;
+    let given = LossLine {
+        near: read_little_signed(all, 4),
+        far: read_little_signed(all, 12),
+        intervals: read_little(all, 20, 4),
+    };
+    let told = record::tell(write_line(out, given));
+    sent(line, told.refusal, told.length)
+}

@@ -1,0 +1,46 @@
+// The calls on the lent session.
+use crate::held::Held;
+use crate::held::Ran;
+use crate::held::measured;
+use crate::line::octets;
+use crate::line::said;
+use crate::steps::losses;
+use calls::MOST;
+use card::answer;
+use octets::numbers::read_little;
+use octets::parts::copy_octets;
+use sessionoctets::SESSION;
+use sessionoctets::session_in;
+use sessionoctets::session_octets;
+use spelling::write_word;
+
+// 266: the session is put as it stands.
+pub(crate) fn put_session(held: Held, call: &[u8; MOST], line: &mut [u8]) -> Ran {
+    let all: &[u8] = call;
+    let mut body = [0u8; SESSION];
+    copy_octets(&mut body, 0, &all[2..39]);
+    let session = session_in(&body);
+    measured(held, session, write_word(line, 0, b"set"))
+}
+
+// 267: one more reading. The rule by value, of which the lent function of `linkcard` only stores the result: no caller that lends a struct is covered.
+pub(crate) fn run_measure(held: Held, call: &[u8; MOST], line: &mut [u8]) -> Ran {
+    let all: &[u8] = call;
+    let before = held.session;
+    let answered = answer(
+        before,
+        read_little(all, 2, 4),
+        read_little(all, 6, 4),
+        read_little(all, 10, 4),
+        read_little(all, 14, 4),
+    );
+    let told = answered.told;
+    let session = answered.session;
+    if told.refusal != 0 {
+        return measured(held, session, said(line, b"refused", told.refusal as i64));
+    }
+    let shown = session_octets(session);
+    let at = losses(line, told.near, told.far);
+    let next = write_word(line, at, b" session");
+    measured(held, session, octets(line, next, &shown))
+}

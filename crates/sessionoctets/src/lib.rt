@@ -1,0 +1,47 @@
+// A loss session in 37 octets, as recorded runs hold it: kept 1, the four readings of 4, near 8, far 8, intervals 4.
+ghost use mathlib.Core.Path.{_≡_};
+ghost use Rattle.sessionoctets.specs.Session.{sessionAt, sessionOctets};
+use octets::numbers::read_little;
+use octets::numbers::read_little_signed;
+use octets::numbers::write_little;
+use octets::numbers::write_little_signed;
+use session::LossSession;
+use session::Readings;
+
+// The octets of a session.
+pub const SESSION: usize = 37;
+
+// The session in these octets, taken as it stands: nothing is tested.
+pub fn session_in(from: &[u8; SESSION]) -> LossSession
+    ensures { λ r. ⌜ r ≡ sessionAt (now (from .entry)) ⌝ }
+{
+    LossSession {
+        kept: read_little(from, 0, 1),
+        intervals: read_little(from, 33, 4),
+        last: Readings {
+            txf: read_little(from, 1, 4),
+            rxf: read_little(from, 5, 4),
+            txb: read_little(from, 9, 4),
+            ours: read_little(from, 13, 4),
+        },
+        near: read_little_signed(from, 17),
+        far: read_little_signed(from, 25),
+    }
+}
+
+// The octets of a session: nothing is tested, and of `kept` what does not fit in its octet is left out.
+pub fn session_octets(s: LossSession) -> [u8; SESSION]
+    ensures { λ r. ⌜ r ≡ sessionOctets s ⌝ }
+{
+    let last = s.last;
+    let mut octets = [0u8; SESSION];
+    write_little(&mut octets, 0, 1, s.kept);
+    write_little(&mut octets, 1, 4, last.txf);
+    write_little(&mut octets, 5, 4, last.rxf);
+    write_little(&mut octets, 9, 4, last.txb);
+    write_little(&mut octets, 13, 4, last.ours);
+    write_little_signed(&mut octets, 17, s.near);
+    write_little_signed(&mut octets, 25, s.far);
+    write_little(&mut octets, 33, 4, s.intervals);
+    octets
+}

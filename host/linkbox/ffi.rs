@@ -1,0 +1,224 @@
+//! The static library's own functions, as linkbox.h declares them: raw, one by one. `lib.rs` is what a program calls.
+//!
+//! The caller sees to it that every pointer is to memory of the size that is named and that what a call writes overlaps nothing else that is handed over. A
+//! slice is a pointer, never null, and a length. Any content of the memory is a value.
+
+/// How many peers a box has room for.
+pub const PEERS: usize = 8;
+
+/// What a box knows, as linkbox.h lays it out: 248 octets, no padding.
+#[repr(C)]
+#[derive(Clone, Copy, PartialEq, Eq, Debug)]
+pub struct Arrays {
+    /// Level, MEP ID, period code, peer count.
+    pub set: [u32; 4],
+    /// Own address 6, loss peer's address 6, MEG ID 48, in wire order.
+    pub names: [u8; 60],
+    /// The peers' MEP IDs, 0 in unused slots.
+    pub ids: [u32; PEERS],
+    /// Of each peer: ticks until its continuity is lost.
+    pub timers: [u32; PEERS],
+    /// Of each peer: 1 while its last CCM had RDI.
+    pub rdi: [u32; PEERS],
+    /// Timers of mismerge, unexpected level, MEP and period, AIS and LCK; ticks to the next CCM; sent and received service frames; whether a reading is
+    /// kept; TxFCf, RxFCf, TxFCb and our own count of it; intervals.
+    pub run: [u32; 15],
+    /// Near and far loss.
+    pub totals: [i64; 2],
+}
+
+/// A time as the wire has it. All zero means "not given".
+#[repr(C)]
+#[derive(Clone, Copy, PartialEq, Eq, Debug, Default)]
+pub struct Stamp {
+    pub seconds: u32,
+    /// At most 999,999,999; what is more is refused.
+    pub nanoseconds: u32,
+}
+
+/// What a frame is answered.
+#[repr(C)]
+#[derive(Clone, Copy, PartialEq, Eq, Debug, Default)]
+pub struct FrameTold {
+    pub refusal: u32,
+    pub drop: u32,
+    pub done: u32,
+    pub length: usize,
+    pub near: i64,
+    pub far: i64,
+    pub twoway: i64,
+    pub onewayfar: i64,
+    pub onewaynear: i64,
+}
+
+/// What a call that writes a message or record is answered: the refusal, or 0, and how many octets were written.
+#[repr(C)]
+#[derive(Clone, Copy, PartialEq, Eq, Debug, Default)]
+pub struct Written {
+    pub refusal: u32,
+    pub length: usize,
+}
+
+/// Each condition, 1 while it stands and else 0; of each peer slot loss of continuity and the RDI that it last sent.
+#[repr(C)]
+#[derive(Clone, Copy, PartialEq, Eq, Debug, Default)]
+pub struct ConditionFlags {
+    pub lost: [u32; PEERS],
+    pub rdi: [u32; PEERS],
+    pub mismerge: u32,
+    pub unexpectedmep: u32,
+    pub unexpectedperiod: u32,
+    pub unexpectedlevel: u32,
+    pub ais: u32,
+    pub lck: u32,
+}
+
+/// What the question for the conditions is answered.
+#[repr(C)]
+#[derive(Clone, Copy, PartialEq, Eq, Debug, Default)]
+pub struct ConditionsTold {
+    pub refusal: u32,
+    pub conditions: ConditionFlags,
+}
+
+/// What a read of a settings record is answered.
+#[repr(C)]
+#[derive(Clone, Copy, PartialEq, Eq, Debug)]
+pub struct SettingsRead {
+    pub refusal: u32,
+    pub set: [u32; 4],
+    pub names: [u8; 60],
+    pub ids: [u32; PEERS],
+}
+
+/// A loss line: near and far totals, and the intervals that they count.
+#[repr(C)]
+#[derive(Clone, Copy, PartialEq, Eq, Debug, Default)]
+pub struct LossLine {
+    pub near: i64,
+    pub far: i64,
+    pub intervals: u32,
+}
+
+/// What a read of a loss line is answered.
+#[repr(C)]
+#[derive(Clone, Copy, PartialEq, Eq, Debug, Default)]
+pub struct LineTold {
+    pub refusal: u32,
+    pub intervals: u32,
+    pub near: i64,
+    pub far: i64,
+}
+
+/// The four readings of a loss reply: TxFCf, RxFCf, TxFCb and our own received count.
+#[repr(C)]
+#[derive(Clone, Copy, PartialEq, Eq, Debug, Default)]
+pub struct Readings {
+    pub txf: u32,
+    pub rxf: u32,
+    pub txb: u32,
+    pub ours: u32,
+}
+
+/// A loss session apart from a box: whether a reading is kept (0 or 1), the intervals, the reading, both totals.
+#[repr(C)]
+#[derive(Clone, Copy, PartialEq, Eq, Debug, Default)]
+pub struct LossSession {
+    pub kept: u32,
+    pub intervals: u32,
+    pub last: Readings,
+    pub near: i64,
+    pub far: i64,
+}
+
+/// What a reading is answered.
+#[repr(C)]
+#[derive(Clone, Copy, PartialEq, Eq, Debug, Default)]
+pub struct LossTold {
+    pub refusal: u32,
+    pub near: i64,
+    pub far: i64,
+}
+
+/// What a frame asked for a TLV is answered.
+#[repr(C)]
+#[derive(Clone, Copy, PartialEq, Eq, Debug, Default)]
+pub struct TlvTold {
+    pub refusal: u32,
+    pub drop: u32,
+    pub value: u32,
+    pub start: usize,
+    pub length: usize,
+}
+
+// The sizes that linkbox.h asserts too.
+const _: () = assert!(size_of::<usize>() == 8, "the library is code for 64 bits");
+const _: () = assert!(size_of::<Arrays>() == 248, "a box has no padding");
+const _: () = assert!(size_of::<Stamp>() == 8 && size_of::<Written>() == 16 && size_of::<FrameTold>() == 64);
+const _: () = assert!(size_of::<ConditionFlags>() == 88 && size_of::<ConditionsTold>() == 92 && size_of::<SettingsRead>() == 112);
+const _: () = assert!(size_of::<LossLine>() == 24 && size_of::<LineTold>() == 24 && size_of::<LossSession>() == 40 && size_of::<LossTold>() == 24);
+const _: () = assert!(size_of::<TlvTold>() == 32);
+
+unsafe extern "C" {
+    /// A new setting, from the settings that lie there; tells 0, or refusal 4, after which every array holds zeros. Writes all.
+    pub fn linkbox_new_setting(
+        set: *mut [u32; 4], names: *mut [u8; 60], ids: *mut [u32; PEERS], timers: *mut [u32; PEERS], rdi: *mut [u32; PEERS], run: *mut [u32; 15],
+        totals: *mut [i64; 2],
+    ) -> u32;
+
+    /// A frame from a side (0 active, else passive). Writes timers, rdi, run, totals and out.
+    pub fn linkbox_frame(
+        set: *const [u32; 4], names: *const [u8; 60], ids: *const [u32; PEERS], timers: *mut [u32; PEERS], rdi: *mut [u32; PEERS], run: *mut [u32; 15],
+        totals: *mut [i64; 2], side: u32, frame: *const u8, length: usize, receive: Stamp, transmit: Stamp, out: *mut u8, room: usize,
+    ) -> FrameTold;
+
+    /// A tick. Writes timers, run and out.
+    pub fn linkbox_tick(
+        set: *const [u32; 4], names: *const [u8; 60], ids: *const [u32; PEERS], timers: *mut [u32; PEERS], rdi: *const [u32; PEERS], run: *mut [u32; 15],
+        totals: *const [i64; 2], out: *mut u8, room: usize,
+    ) -> Written;
+
+    /// A clear of the loss session; tells 0, or refusal 2. Writes run and totals.
+    pub fn linkbox_clear(
+        set: *const [u32; 4], names: *const [u8; 60], ids: *const [u32; PEERS], timers: *const [u32; PEERS], rdi: *const [u32; PEERS], run: *mut [u32; 15],
+        totals: *mut [i64; 2],
+    ) -> u32;
+
+    /// Writes an LMM into out.
+    pub fn linkbox_send_lmm(
+        set: *const [u32; 4], names: *const [u8; 60], ids: *const [u32; PEERS], timers: *const [u32; PEERS], rdi: *const [u32; PEERS],
+        run: *const [u32; 15], totals: *const [i64; 2], out: *mut u8, room: usize,
+    ) -> Written;
+
+    /// Writes a DMM with the caller's stamp into out.
+    pub fn linkbox_send_dmm(
+        set: *const [u32; 4], names: *const [u8; 60], ids: *const [u32; PEERS], timers: *const [u32; PEERS], rdi: *const [u32; PEERS],
+        run: *const [u32; 15], totals: *const [i64; 2], stamp: Stamp, out: *mut u8, room: usize,
+    ) -> Written;
+
+    /// What stands, one by one. Writes nothing.
+    pub fn linkbox_conditions(
+        set: *const [u32; 4], names: *const [u8; 60], ids: *const [u32; PEERS], timers: *const [u32; PEERS], rdi: *const [u32; PEERS],
+        run: *const [u32; 15], totals: *const [i64; 2],
+    ) -> ConditionsTold;
+
+    /// One more reading of a lent session. Writes the session.
+    pub fn linkbox_measure(session: *mut LossSession, txf: u32, rxf: u32, txb: u32, ours: u32) -> LossTold;
+
+    /// The settings of a stored record, or refusal 7 and zeros. Writes nothing.
+    pub fn linkbox_read_settings(from: *const u8, length: usize) -> SettingsRead;
+
+    /// Writes settings as a record into `into`.
+    pub fn linkbox_write_settings(
+        into: *mut u8, room: usize, set: *const [u32; 4], names: *const [u8; 60], ids: *const [u32; PEERS],
+    ) -> Written;
+
+    /// The loss line of a stored record, or refusal 7 and zeros. Writes nothing.
+    pub fn linkbox_read_line(from: *const u8, length: usize) -> LineTold;
+
+    /// Writes a loss line as a record into `into`.
+    pub fn linkbox_write_line(into: *mut u8, room: usize, line: LossLine) -> Written;
+
+    /// The first TLV of a type in a frame. Writes nothing.
+    pub fn linkbox_tlv(frame: *const u8, length: usize, kind: u8) -> TlvTold;
+}

@@ -58,3 +58,52 @@ compile() {
             { cat "$work/$1.clang" >&2; exit 1; }
     done
 }
+
+# write_linkbox DIR: a program that makes every call of the crates linkbox and linkcard, so that the compiler compiles them all
+write_linkbox() {
+    cat <<'RT'
+use stamps::Stamp;
+use session::LossSession;
+use session::Readings;
+use lossrecord::LossLine;
+
+fn main() {
+    let mut set = [0u32; 4];
+    let mut names = [0u8; 60];
+    let mut ids = [0u32; 8];
+    let mut timers = [0u32; 8];
+    let mut rdi = [0u32; 8];
+    let mut run = [0u32; 15];
+    let mut totals = [0i64; 2];
+    let frame = [0u8; 64];
+    let mut out = [0u8; 128];
+    let zero = Stamp { seconds: 0, nanoseconds: 0 };
+    let last = Readings { txf: 0, rxf: 0, txb: 0, ours: 0 };
+    let mut session = LossSession { kept: 0, intervals: 0, last, near: 0, far: 0 };
+    let line = LossLine { near: 0, far: 0, intervals: 0 };
+    let _a = linkbox::linkbox_new_setting(&mut set, &mut names, &mut ids, &mut timers, &mut rdi, &mut run, &mut totals);
+    let _b = linkbox::linkbox_frame(&set, &names, &ids, &mut timers, &mut rdi, &mut run, &mut totals, 1, &frame, zero, zero, &mut out);
+    let _c = linkbox::linkbox_tick(&set, &names, &ids, &mut timers, &rdi, &mut run, &totals, &mut out);
+    let _d = linkbox::linkbox_clear(&set, &names, &ids, &timers, &rdi, &mut run, &mut totals);
+    let _e = linkbox::linkbox_send_lmm(&set, &names, &ids, &timers, &rdi, &run, &totals, &mut out);
+    let _f = linkbox::linkbox_send_dmm(&set, &names, &ids, &timers, &rdi, &run, &totals, zero, &mut out);
+    let _g = linkbox::linkbox_conditions(&set, &names, &ids, &timers, &rdi, &run, &totals);
+    let _h = linkcard::linkbox_measure(&mut session, 0, 0, 0, 0);
+    let _i = linkcard::linkbox_read_settings(&frame);
+    let _j = linkcard::linkbox_write_settings(&mut out, &set, &names, &ids);
+    let _k = linkcard::linkbox_read_line(&frame);
+    let _l = linkcard::linkbox_write_line(&mut out, line);
+    let _m = linkcard::linkbox_tlv(&frame, 0);
+}
+RT
+}
+
+# linkbox_object NAME DIR PREFIX: NAME.o, the calls of linkbox and linkcard as C functions PREFIX_CALL for this processor
+linkbox_object() {
+    write_linkbox "$2" >"$work/main.rt"
+    catch_ir "$1" "$2" "$work/main.rt" --crate-name main
+    # without its main
+    sed -e '/^define i32 @main()/,/^}/d' -e '/^define internal void @"main::main"()/,/^}/d' "$work/$1.caught.ll" >"$work/$1.ll"
+    host/bench/exports "$3" <"$work/$1.caught.ll" >>"$work/$1.ll"
+    compile "$1"
+}

@@ -1,18 +1,11 @@
 // The twin: the end point as a good Rust program would have it, without proofs. It has the same seven arrays, the same duties and the same
 // answers as the proved one, and none of its structure: one struct, early returns, slices, the standard library.
 
-#[repr(C)]
-#[derive(Clone, Copy, PartialEq, Debug)]
-pub struct State {
-    pub set: [u32; 4],   // level, MEP ID, period code, peer count
-    pub names: [u8; 60], // own address, loss peer's address, MEG ID
-    pub ids: [u32; 8],
-    pub timers: [u32; 8],
-    pub rdi: [u32; 8],
-    pub run: [u32; 15], // see the constants below
-    pub totals: [i64; 2], // near, far
-}
+use crate::ffi::{Arrays, ConditionFlags, ConditionsTold, FrameTold, LineTold, LossLine, LossSession, LossTold, Readings, SettingsRead, Stamp, Written};
+#[cfg(tlv)]
+use crate::ffi::TlvTold;
 
+// Where the words of `run` lie.
 pub const MISMERGE: usize = 0;
 pub const LEVEL: usize = 1;
 pub const MEP: usize = 2;
@@ -31,35 +24,6 @@ pub const HOLDS: [u32; 8] = [0, 7, 21, 210, 2_100, 21_000, 126_000, 1_260_000];
 const ALARM_MOST: u32 = 126_000;
 const INTERVALS_MOST: u32 = 1_000_000_000;
 const NANOS_MOST: u32 = 999_999_999;
-
-#[repr(C)]
-#[derive(Clone, Copy, PartialEq, Debug)]
-pub struct Stamp {
-    pub seconds: u32,
-    pub nanoseconds: u32,
-}
-
-// What a frame is answered, in the paper's numbers.
-#[repr(C)]
-#[derive(Clone, Copy, PartialEq, Debug, Default)]
-pub struct FrameTold {
-    pub refusal: u32,
-    pub drop: u32,
-    pub done: u32,
-    pub length: usize,
-    pub near: i64,
-    pub far: i64,
-    pub twoway: i64,
-    pub onewayfar: i64,
-    pub onewaynear: i64,
-}
-
-#[repr(C)]
-#[derive(Clone, Copy, PartialEq, Debug, Default)]
-pub struct TickTold {
-    pub refusal: u32,
-    pub length: usize,
-}
 
 fn refused(refusal: u32) -> FrameTold {
     FrameTold { refusal, ..Default::default() }
@@ -100,7 +64,7 @@ fn be32(f: &[u8], at: usize) -> u32 {
     u32::from_be_bytes(f[at..at + 4].try_into().unwrap())
 }
 
-impl State {
+impl Arrays {
     fn own(&self) -> &[u8] {
         &self.names[..6]
     }
@@ -136,11 +100,7 @@ impl State {
 
     fn session_good(&self) -> bool {
         let (kept, intervals) = (self.run[KEPT], self.run[INTERVALS]);
-        if kept > 1 || intervals > INTERVALS_MOST {
-            return false;
-        }
-        let most = intervals as u64 * 4_294_967_295;
-        if self.totals.iter().any(|t| t.unsigned_abs() > most) {
+        if kept > 1 || !line_good(self.totals[0], self.totals[1], intervals) {
             return false;
         }
         kept == 1 || (intervals == 0 && self.run[READING..READING + 4] == [0; 4])
@@ -327,13 +287,13 @@ impl State {
         }
     }
 
-    pub fn tick(&mut self, out: &mut [u8]) -> TickTold {
+    pub fn tick(&mut self, out: &mut [u8]) -> Written {
         if !self.well_formed() {
-            return TickTold { refusal: 2, length: 0 };
+            return Written { refusal: 2, length: 0 };
         }
         let last = self.run[NEXT] == 1;
         if last && out.len() < 89 {
-            return TickTold { refusal: 3, length: 0 };
+            return Written { refusal: 3, length: 0 };
         }
         for t in &mut self.timers {
             *t = t.saturating_sub(1);
@@ -343,7 +303,7 @@ impl State {
         }
         if !last {
             self.run[NEXT] -= 1;
-            return TickTold { refusal: 0, length: 0 };
+            return Written { refusal: 0, length: 0 };
         }
         self.run[NEXT] = TICKS[self.set[2] as usize & 7];
         let lost = self.timers[..self.set[3] as usize].contains(&0);
@@ -361,7 +321,188 @@ impl State {
         out[22..24].copy_from_slice(&(self.set[1] as u16).to_be_bytes());
         out[24..72].copy_from_slice(self.meg());
         out[72..].fill(0);
-        TickTold { refusal: 0, length: 89 }
+        Written { refusal: 0, length: 89 }
+    }
+    // A message of version 1 to the loss peer, its fixed part and flags zero, and the End TLV.
+    fn request<'a>(&self, out: &'a mut [u8], opcode: u8, offset: u8) -> &'a mut [u8] {
+        let out = &mut out[..19 + offset as usize];
+        out[..6].copy_from_slice(self.loss_peer());
+        out[6..12].copy_from_slice(self.own());
+        out[12..18].copy_from_slice(&[0x89, 0x02, (self.set[0] as u8) << 5 | 1, opcode, 0, offset]);
+        out[18..].fill(0);
+        out
+    }
+
+    pub fn send_lmm(&self, out: &mut [u8]) -> Written {
+        if !self.well_formed() {
+            return Written { refusal: 2, length: 0 };
+        }
+        if out.len() < 31 {
+            return Written { refusal: 3, length: 0 };
+        }
+        self.request(out, 43, 12)[18..22].copy_from_slice(&self.run[SENT].to_be_bytes());
+        Written { refusal: 0, length: 31 }
+    }
+
+    pub fn send_dmm(&self, stamp: Stamp, out: &mut [u8]) -> Written {
+        if !self.well_formed() {
+            return Written { refusal: 2, length: 0 };
+        }
+        if !stamp.good() {
+            return Written { refusal: 6, length: 0 };
+        }
+        if out.len() < 51 {
+            return Written { refusal: 3, length: 0 };
+        }
+        stamp.write(self.request(out, 47, 32), 18);
+        Written { refusal: 0, length: 51 }
+    }
+
+    pub fn new_setting(&mut self) -> u32 {
+        if !self.settings_valid() {
+            *self = NOTHING;
+            return 4;
+        }
+        let (hold, count) = (self.hold(), self.set[3] as usize);
+        self.timers[..count].fill(hold);
+        self.timers[count..].fill(0);
+        self.rdi = [0; 8];
+        self.run = [0; 15];
+        self.totals = [0; 2];
+        self.run[NEXT] = TICKS[self.set[2] as usize & 7];
+        0
+    }
+
+    pub fn clear(&mut self) -> u32 {
+        if !self.well_formed() {
+            return 2;
+        }
+        self.run[KEPT..].fill(0);
+        self.totals = [0; 2];
+        0
+    }
+
+    pub fn conditions(&self) -> ConditionsTold {
+        if !self.well_formed() {
+            return ConditionsTold { refusal: 2, ..Default::default() };
+        }
+        let stands = |at: usize| (self.run[at] > 0) as u32;
+        let mut flags = ConditionFlags {
+            mismerge: stands(MISMERGE),
+            unexpectedmep: stands(MEP),
+            unexpectedperiod: stands(PERIOD),
+            unexpectedlevel: stands(LEVEL),
+            ais: stands(AIS),
+            lck: stands(LCK),
+            ..Default::default()
+        };
+        for k in 0..self.set[3] as usize {
+            flags.lost[k] = (self.timers[k] == 0) as u32;
+            flags.rdi[k] = self.rdi[k];
+        }
+        ConditionsTold { refusal: 0, conditions: flags }
+    }
+
+    pub fn write_settings(&self, into: &mut [u8]) -> Written {
+        if !self.settings_valid() {
+            return Written { refusal: 4, length: 0 };
+        }
+        let Some(into) = into.get_mut(..85) else { return Written { refusal: 3, length: 0 } };
+        into[..4].copy_from_slice(&[83, 0, 1, 0]);
+        into[4] = self.set[0] as u8;
+        into[5..7].copy_from_slice(&(self.set[1] as u16).to_le_bytes());
+        into[7..13].copy_from_slice(self.own());
+        into[13] = self.set[2] as u8;
+        into[14..62].copy_from_slice(self.meg());
+        into[62..68].copy_from_slice(self.loss_peer());
+        into[68] = self.set[3] as u8;
+        for (to, id) in into[69..].chunks_exact_mut(2).zip(self.ids) {
+            to.copy_from_slice(&(id as u16).to_le_bytes());
+        }
+        Written { refusal: 0, length: 85 }
+    }
+}
+
+// A box that was never set.
+pub const NOTHING: Arrays = Arrays { set: [0; 4], names: [0; 60], ids: [0; 8], timers: [0; 8], rdi: [0; 8], run: [0; 15], totals: [0; 2] };
+
+// The rules on totals and intervals, of a session and of a stored line.
+fn line_good(near: i64, far: i64, intervals: u32) -> bool {
+    let most = intervals as u64 * 4_294_967_295;
+    intervals <= INTERVALS_MOST && near.unsigned_abs() <= most && far.unsigned_abs() <= most
+}
+
+pub fn read_settings(from: &[u8]) -> SettingsRead {
+    let refused = SettingsRead { refusal: 7, set: [0; 4], names: [0; 60], ids: [0; 8] };
+    let Some(from) = from.get(..85) else { return refused };
+    if from[..4] != [83, 0, 1, 0] {
+        return refused;
+    }
+    let mut read = Arrays { set: [from[4] as u32, le16(from, 5), from[13] as u32, from[68] as u32], ..NOTHING };
+    read.names[..6].copy_from_slice(&from[7..13]);
+    read.names[6..12].copy_from_slice(&from[62..68]);
+    read.names[12..].copy_from_slice(&from[14..62]);
+    read.ids = std::array::from_fn(|i| le16(from, 69 + 2 * i));
+    if !read.settings_valid() {
+        return refused;
+    }
+    SettingsRead { refusal: 0, set: read.set, names: read.names, ids: read.ids }
+}
+
+fn le16(f: &[u8], at: usize) -> u32 {
+    u16::from_le_bytes([f[at], f[at + 1]]) as u32
+}
+
+pub fn read_line(from: &[u8]) -> LineTold {
+    let refused = LineTold { refusal: 7, ..Default::default() };
+    let Some(from) = from.get(..24) else { return refused };
+    let near = i64::from_le_bytes(from[4..12].try_into().unwrap());
+    let far = i64::from_le_bytes(from[12..20].try_into().unwrap());
+    let intervals = u32::from_le_bytes(from[20..].try_into().unwrap());
+    if from[..4] != [22, 0, 2, 0] || !line_good(near, far, intervals) {
+        return refused;
+    }
+    LineTold { refusal: 0, intervals, near, far }
+}
+
+pub fn write_line(into: &mut [u8], line: LossLine) -> Written {
+    if !line_good(line.near, line.far, line.intervals) {
+        return Written { refusal: 4, length: 0 };
+    }
+    let Some(into) = into.get_mut(..24) else { return Written { refusal: 3, length: 0 } };
+    into[..4].copy_from_slice(&[22, 0, 2, 0]);
+    into[4..12].copy_from_slice(&line.near.to_le_bytes());
+    into[12..20].copy_from_slice(&line.far.to_le_bytes());
+    into[20..].copy_from_slice(&line.intervals.to_le_bytes());
+    Written { refusal: 0, length: 24 }
+}
+
+impl LossSession {
+    fn good(&self) -> bool {
+        self.kept <= 1
+            && line_good(self.near, self.far, self.intervals)
+            && (self.kept == 1 || (self.intervals == 0 && self.last == Readings::default()))
+    }
+
+    pub fn measured(&mut self, now: Readings) -> LossTold {
+        if !self.good() {
+            return LossTold { refusal: 2, ..Default::default() };
+        }
+        let mut told = LossTold::default();
+        if self.kept == 1 {
+            if self.intervals == INTERVALS_MOST {
+                return LossTold { refusal: 5, ..Default::default() };
+            }
+            let grown = |now: u32, last: u32| now.wrapping_sub(last) as i64;
+            told.far = grown(now.txf, self.last.txf) - grown(now.rxf, self.last.rxf);
+            told.near = grown(now.txb, self.last.txb) - grown(now.ours, self.last.ours);
+            self.near += told.near;
+            self.far += told.far;
+            self.intervals += 1;
+        }
+        self.kept = 1;
+        self.last = now;
+        told
     }
 }
 
@@ -402,6 +543,49 @@ fn ends(f: &[u8], from: usize) -> bool {
                 if at > f.len() {
                     return false;
                 }
+            }
+        }
+    }
+}
+
+// The first TLV of a type, and what the reader tests before it.
+#[cfg(tlv)]
+pub fn find_tlv(f: &[u8], kind: u8) -> TlvTold {
+    let dropped = |drop: u32| TlvTold { drop, ..Default::default() };
+    if f.len() < 14 || f.len() > 1514 {
+        return TlvTold { refusal: 1, ..Default::default() };
+    }
+    if f[12..14] != [0x89, 0x02] {
+        return dropped(3);
+    }
+    if f.len() < 18 {
+        return dropped(1);
+    }
+    let least = match f[15] {
+        2 => 4,
+        opcode => match Rule::of(opcode) {
+            Some(rule) => rule.least,
+            None => return dropped(3),
+        },
+    };
+    if f[17] < least {
+        return dropped(4);
+    }
+    let (mut at, mut found) = (18 + f[17] as usize, TlvTold::default());
+    loop {
+        match f.get(at) {
+            None => return dropped(5),
+            Some(0) => return found,
+            Some(&k) => {
+                let Some(length) = f.get(at + 1..at + 3) else { return dropped(5) };
+                let length = u16::from_be_bytes([length[0], length[1]]) as usize;
+                if at + 3 + length > f.len() {
+                    return dropped(5);
+                }
+                if k == kind && found.value == 0 {
+                    found = TlvTold { value: 1, start: at + 3, length, ..Default::default() };
+                }
+                at += 3 + length;
             }
         }
     }

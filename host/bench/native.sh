@@ -59,7 +59,7 @@ compile() {
     done
 }
 
-# write_linkbox DIR: a program that makes every call of the crates linkbox and linkcard, so that the compiler compiles them all
+# write_linkbox DIR: a program that makes every call of the C boundary, so that the compiler compiles them all
 write_linkbox() {
     cat <<'RT'
 use stamps::Stamp;
@@ -81,24 +81,24 @@ fn main() {
     let last = Readings { txf: 0, rxf: 0, txb: 0, ours: 0 };
     let mut session = LossSession { kept: 0, intervals: 0, last, near: 0, far: 0 };
     let line = LossLine { near: 0, far: 0, intervals: 0 };
-    let _a = linkbox::linkbox_new_setting(&mut set, &mut names, &mut ids, &mut timers, &mut rdi, &mut run, &mut totals);
-    let _b = linkbox::linkbox_frame(&set, &names, &ids, &mut timers, &mut rdi, &mut run, &mut totals, 1, &frame, zero, zero, &mut out);
-    let _c = linkbox::linkbox_tick(&set, &names, &ids, &mut timers, &rdi, &mut run, &totals, &mut out);
-    let _d = linkbox::linkbox_clear(&set, &names, &ids, &timers, &rdi, &mut run, &mut totals);
-    let _e = linkbox::linkbox_send_lmm(&set, &names, &ids, &timers, &rdi, &run, &totals, &mut out);
-    let _f = linkbox::linkbox_send_dmm(&set, &names, &ids, &timers, &rdi, &run, &totals, zero, &mut out);
-    let _g = linkbox::linkbox_conditions(&set, &names, &ids, &timers, &rdi, &run, &totals);
+    let _a = linkstate::linkbox_new_setting(&mut set, &mut names, &mut ids, &mut timers, &mut rdi, &mut run, &mut totals);
+    let _b = linkframe::linkbox_frame(&set, &names, &ids, &mut timers, &mut rdi, &mut run, &mut totals, 1, &frame, zero, zero, &mut out);
+    let _c = linksend::linkbox_tick(&set, &names, &ids, &mut timers, &rdi, &mut run, &totals, &mut out);
+    let _d = linkstate::linkbox_clear(&set, &names, &ids, &timers, &rdi, &mut run, &mut totals);
+    let _e = linksend::linkbox_send_lmm(&set, &names, &ids, &timers, &rdi, &run, &totals, &mut out);
+    let _f = linksend::linkbox_send_dmm(&set, &names, &ids, &timers, &rdi, &run, &totals, zero, &mut out);
+    let _g = linkstate::linkbox_conditions(&set, &names, &ids, &timers, &rdi, &run, &totals);
     let _h = linkcard::linkbox_measure(&mut session, 0, 0, 0, 0);
-    let _i = linkcard::linkbox_read_settings(&frame);
-    let _j = linkcard::linkbox_write_settings(&mut out, &set, &names, &ids);
-    let _k = linkcard::linkbox_read_line(&frame);
-    let _l = linkcard::linkbox_write_line(&mut out, line);
-    let _m = linkcard::linkbox_tlv(&frame, 0);
+    let _i = linkrecord::linkbox_read_settings(&frame);
+    let _j = linkrecord::linkbox_write_settings(&mut out, &set, &names, &ids);
+    let _k = linkrecord::linkbox_read_line(&frame);
+    let _l = linkrecord::linkbox_write_line(&mut out, line);
+    let _m = linkreader::linkbox_tlv(&frame, 0);
 }
 RT
 }
 
-# linkbox_object NAME DIR PREFIX: NAME.o, the calls of linkbox and linkcard as C functions PREFIX_CALL for this processor
+# linkbox_object NAME DIR PREFIX: NAME.o, the calls of the C boundary as C functions PREFIX_CALL for this processor
 linkbox_object() {
     write_linkbox "$2" >"$work/main.rt"
     catch_ir "$1" "$2" "$work/main.rt" --crate-name main

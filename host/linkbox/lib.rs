@@ -1,4 +1,4 @@
-//! A link box for Rust programs and firmware, over the static library that `rt staticlib linkbox` writes. No part of std is needed, nothing is allocated.
+//! A link box for Rust programs and firmware, over the static library that `tests/linkbox/run` makes. No part of std is needed, nothing is allocated.
 //!
 //! [`LinkBox`] owns the arrays that hold a box's state; each method is one call. What a call writes is borrowed mutably and what it reads is borrowed
 //! beside it, so the compiler rules out the overlap that a C caller has to see to.

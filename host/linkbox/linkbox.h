@@ -1,5 +1,5 @@
-/* linkbox.h: the box's calls for C11 and C++11, over the two static libraries that `rt staticlib linkbox` (calls on a box) and
- * `rt staticlib linkcard` (the rest) write: x86-64, and they need nothing of the host.
+/* linkbox.h: the box's calls for C11 and C++11, over the static library target/staticlib/liblinkbox.a that tests/linkbox/run makes: x86-64, and
+ * it needs nothing of the host.
  *
  * A box is one struct linkbox_box: seven arrays and no padding. The linkbox_box_ functions take it whole; the other declarations are the library's own
  * and take the arrays one by one, for a host that keeps them elsewhere. The library keeps no memory of its own, allocates nothing, and never ends the

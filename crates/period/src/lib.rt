@@ -1,6 +1,6 @@
 // How often a CCM, AIS or LCK is sent, and how long one holds, in ticks of 1/600 s.
 ghost use mathlib.Core.Path.{_≡_};
-ghost use Rattle.period.specs.Periods.{ticksOf, holdOf, rowOf, periodOf};
+ghost use Rattle.period.specs.Periods.{ticksOf, holdOf, periodOf};
 
 // The ticks of period codes 0 to 7, as the paper prints them. Code 0 has no period.
 pub const TICKS: [u32; 8] = [
@@ -40,26 +40,14 @@ impl Period {
 
     pub const MIN_10: u32 = 360_000;
 
-    // One row of the two tables.
-    fn row(ticks: u32, hold: u32) -> Self
-        ensures { λ r. ⌜ r ≡ rowOf ticks hold ⌝ }
-    {
-        Period { ticks, hold }
-    }
-
-    // The period of a code; no period for 0 and for all above 7.
+    // The period of a code: its row of the two tables; no period for 0 and for all above 7.
     pub fn from_code(code: u32) -> Self
         ensures { λ r. ⌜ r ≡ periodOf code ⌝ }
     {
-        match code {
-            1 => Period::row(TICKS[1], HOLDS[1]),
-            2 => Period::row(TICKS[2], HOLDS[2]),
-            3 => Period::row(TICKS[3], HOLDS[3]),
-            4 => Period::row(TICKS[4], HOLDS[4]),
-            5 => Period::row(TICKS[5], HOLDS[5]),
-            6 => Period::row(TICKS[6], HOLDS[6]),
-            7 => Period::row(TICKS[7], HOLDS[7]),
-            _ => Period::row(TICKS[0], HOLDS[0]),
+        let at: usize = if code < 8 { code as usize } else { 0 };
+        Period {
+            ticks: TICKS[at],
+            hold: HOLDS[at],
         }
     }
 }

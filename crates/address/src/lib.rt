@@ -2,7 +2,7 @@
 ghost use mathlib.Core.Path.{_≡_};
 ghost use Rattle.whole.specs.Lists.{same};
 ghost use Rattle.address.specs.Multicast.{multicastOf, lastOf};
-use octets::parts::same_octets;
+use same::same_octets;
 
 // The first five octets of every level's address.
 const PREFIX: [u8; 5] = [0x01, 0x80, 0xc2, 0x00, 0x00];

@@ -1,7 +1,6 @@
 // Recorded calls: how long one is, and which are bad. A call is a two-octet length of all that follows it, a two-octet number, a body.
 ghost use mathlib.Core.Path.{_≡_};
 ghost use Rattle.calls.specs.Calls.{rowOf, placeOf, callLength, handsOver, roomOf, bodyGood, sideGood, isCall};
-use octets::numbers::octet;
 use octets::numbers::read_little;
 
 // The longest call, without its length.
@@ -128,7 +127,7 @@ fn side_good(call: &[u8], number: u32) -> bool
     if call.len() < 3 {
         return true;
     }
-    octet(call, 2) <= 1
+    call[2] <= 1
 }
 
 // Tells whether these octets are a call without its length: a number that is known, a body of its length, a good side, a good buffer.

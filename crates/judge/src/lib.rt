@@ -3,7 +3,6 @@ ghost use mathlib.Core.Path.{_≡_};
 ghost use Rattle.judge.specs.Judge.{judgePdu, judge};
 use frame::head::HEAD_LENGTH;
 use frame::head::LONGEST;
-use octets::numbers::octet;
 use octets::numbers::read_big;
 use opcodes::is_known;
 use opcodes::rule_of;
@@ -28,7 +27,7 @@ fn judge_pdu(pdu: &[u8]) -> Head
         return Head::Bad(Bad::Opcode);
     }
     let least = rule.least;
-    let offset = octet(pdu, 3) as usize;
+    let offset = pdu[3] as usize;
     if offset < least {
         return Head::Bad(Bad::Offset);
     }

@@ -14,7 +14,7 @@ use mir.Syntax.{w64}
 use mir.Val.{Fits, SFits, toZ, ofZ}
 use mir.Facts.{toZ-ofZ, ofZ-toZ, fits-ofZ, fits-lt-pow}
 use Rattle.whole.specs.Lists.{part, laid}
-use Rattle.whole.proofs.Lists.{part-here, part-append, length-part, laid-back, laid-others, laid-next}
+use Rattle.whole.proofs.Lists.{part-here, part-append, length-part, laid-back, laid-others}
 use Rattle.octets.specs.Numbers.{Order, littleEndian, bigEndian, numberLowestFirst, octetsLowestFirst, number, inOctets, Octets, Numbers}
 
 -- ── the lowest first ──
@@ -152,10 +152,6 @@ spelled-append (suc m) n v =
     let e : v / 256 / 256 ^ m ≡ v / 256 ^ suc m = div-div-eq-div-mul v 256 (256 ^ m) ∙ ap (λ (k : ℕ). v / k) (sym (pow-succ' 256 m)) in
     rw (suc-add m n) (ap (λ (l : List ℕ). v % 256 ∷ l) (spelled-append m n (v / 256)) ∙ rw e)
 
-pub little-octets-append : (m n v : ℕ) → inOctets littleEndian (m + n) v ≡ inOctets littleEndian m v ++ inOctets littleEndian n (v / 256 ^ m)
-unfolding inOctets
-little-octets-append m n v = spelled-append m n v
-
 -- what does not fit in n octets makes no difference to them
 spelled-mod : (n v : ℕ) → octetsLowestFirst n (v % 256 ^ n) ≡ octetsLowestFirst n v
 unfolding octetsLowestFirst
@@ -200,16 +196,6 @@ eight-read at s h =
     ap (number littleEndian) (part-append at 4 4 s) ∙ little-append low high in
     let size : 256 ^ length low ≡ 256 ^ 4 = ap (λ (k : ℕ). 256 ^ k) e in
     sym (halves ∙ rw size (omega arith))
-
-pub eight-write : (at v : ℕ) (s : List ℕ) → at + 8 ≤ length s
-    → laid (at + 4) (inOctets littleEndian 4 (v / 2 ^ 32)) (laid at (inOctets littleEndian 4 (v % 2 ^ 32)) s) ≡ laid at (inOctets littleEndian 8 v) s
-eight-write at v s h =
-    let low = inOctets littleEndian 4 v in
-    let high = inOctets littleEndian 4 (v / 2 ^ 32) in
-    let f : length high ≡ 4 = length-octets littleEndian 4 (v / 2 ^ 32) in
-    ap (λ (l : List ℕ). laid (at + 4) high (laid at l s)) (left-out littleEndian 4 v)
-    ∙ laid-next at 4 low high s (length-octets littleEndian 4 v) (omega arith)
-    ∙ ap (λ (l : List ℕ). laid at l s) (sym (little-octets-append 4 4 v))
 
 -- ── what is said ──
 

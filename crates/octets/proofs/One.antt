@@ -2,7 +2,6 @@
 -- reads off the source's own clauses. Assumes nothing.
 use mathlib.Core.Path.{_≡_, sym, _∙_}
 use denote.Ref.{now}
-use Rattle.octets.proofs.numbers.octet.Reads as octet
 use Rattle.octets.proofs.numbers.read_big.Reads as read-big
 use Rattle.octets.proofs.numbers.read_little.Reads as read-little
 use Rattle.octets.proofs.numbers.read_little_signed.Reads as read-little-signed
@@ -10,10 +9,6 @@ use Rattle.octets.proofs.numbers.write_big.Reads as write-big
 use Rattle.octets.proofs.numbers.write_little.Reads as write-little
 use Rattle.octets.proofs.numbers.write_little_signed.Reads as write-little-signed
 use Rattle.octets.proofs.parts.copy_octets.Reads as copy-octets
-use Rattle.octets.proofs.parts.same_octets.Reads as same-octets
-
-pub octet-one : (κs : _) (a : _) (r r′ : _) (s s′ : _) → octet.Post κs a r s → octet.Post κs a r′ s′ → r ≡ r′
-octet-one κs a r r′ s s′ p q = p .is ∙ sym (q .is)
 
 pub read-big-one : (κs : _) (a : _) (r r′ : _) (s s′ : _) → read-big.Post κs a r s → read-big.Post κs a r′ s′ → r ≡ r′
 read-big-one κs a r r′ s s′ p q = p .is ∙ sym (q .is)
@@ -35,6 +30,3 @@ write-little-signed-one κs a r r′ s s′ p q = p ∙ sym q
 
 pub copy-octets-one : (κs : _) (a : _) (r r′ : _) (s s′ : _) → copy-octets.Post κs a r s → copy-octets.Post κs a r′ s′ → now (s .0) ≡ now (s′ .0)
 copy-octets-one κs a r r′ s s′ p q = p ∙ sym q
-
-pub same-octets-one : (κs : _) (a : _) (r r′ : _) (s s′ : _) → same-octets.Post κs a r s → same-octets.Post κs a r′ s′ → r ≡ r′
-same-octets-one κs a r r′ s s′ p q = p ∙ sym q

@@ -44,11 +44,6 @@ pub record NumberAt (o : Order) (s : List ℕ) (at n r : ℕ) : Type 0 where
   pub is : r ≡ number o (part at n s)
   pub small : r < 256 ^ n
 
--- r is the octet of s at a place
-pub record OctetAt (s : List ℕ) (at r : ℕ) : Type 0 where
-  pub is : r ≡ getD s at 0
-  pub small : r < 256
-
 -- what is said of numbers in octets, each once for both orders and every n
 pub record Numbers : Type 0 where
   -- what each order is: no octets are 0; the first of several is the highest, or the lowest

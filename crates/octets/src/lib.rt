@@ -1,3 +1,3 @@
-// Numbers in octets, and runs of octets copied and compared. Inner: callers meet the `requires`.
+// Numbers in octets, and runs of octets copied. Inner: callers meet the `requires`.
 pub mod numbers;
 pub mod parts;

@@ -1,19 +1,11 @@
 // A number in n octets, read from a slice at a place and written into one.
 ghost use mathlib.Core.Path.{_≡_};
-ghost use Prim.Native.Nat.{_+_, _≤_, _<_};
+ghost use Prim.Native.Nat.{_+_, _≤_};
 ghost use lib.ListN.{length};
 ghost use mir.Syntax.{w64};
 ghost use mir.Val.{toZ, ofZ};
 ghost use Rattle.whole.specs.Lists.{part, laid};
-ghost use Rattle.octets.specs.Numbers.{number, inOctets, littleEndian, bigEndian, NumberAt, OctetAt};
-
-// The octet at a place, widened.
-pub fn octet(from: &[u8], at: usize) -> u32
-    requires { ⌜ at < length (now from) ⌝ }
-    ensures { λ r. ⌜ OctetAt (now (from .entry)) at r ⌝ }
-{
-    from[at] as u32
-}
+ghost use Rattle.octets.specs.Numbers.{number, inOctets, littleEndian, bigEndian, NumberAt};
 
 // The number in the n octets at a place, the highest first, as on the wire.
 pub fn read_big(from: &[u8], at: usize, n: usize) -> u32
@@ -23,7 +15,7 @@ pub fn read_big(from: &[u8], at: usize, n: usize) -> u32
     let mut sum: u32 = 0;
     let mut i: usize = 0;
     while i < n {
-        sum = sum * 256 + octet(from, at + i);
+        sum = sum * 256 + from[at + i] as u32;
         i += 1;
     }
     sum
@@ -38,7 +30,7 @@ pub fn read_little(from: &[u8], at: usize, n: usize) -> u32
     let mut left: usize = n;
     while 0 < left {
         left -= 1;
-        sum = sum * 256 + octet(from, at + left);
+        sum = sum * 256 + from[at + left] as u32;
     }
     sum
 }
@@ -108,7 +100,11 @@ pub fn write_little_signed(into: &mut [u8], at: usize, value: i64)
     requires { ⌜ at + 8 ≤ length (now into) ⌝ }
     ensures { λ _. ⌜ now (into .exit) ≡ laid at (inOctets littleEndian 8 (ofZ w64 value)) (now (into .entry)) ⌝ }
 {
-    let bits = bits_of(value);
-    write_little(into, at, 4, (bits % 4294967296) as u32);
-    write_little(into, at + 4, 4, (bits / 4294967296) as u32);
+    let mut bits = bits_of(value);
+    let mut i: usize = 0;
+    while i < 8 {
+        into[at + i] = (bits & 255) as u8;
+        bits = bits >> 8;
+        i += 1;
+    }
 }

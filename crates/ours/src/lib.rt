@@ -2,8 +2,8 @@
 ghost use mathlib.Core.Path.{_≡_};
 ghost use Rattle.ours.specs.Ours.{hasGroupBit, goodDestination, goodSource, forUs};
 use address::is_multicast;
-use octets::parts::same_octets;
 use opcodes::rule_of;
+use same::same_octets;
 
 // The opcode of a loss reply, the one message that only the loss peer may send.
 const LMR: u8 = 42;

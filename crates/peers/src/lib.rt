@@ -7,7 +7,7 @@ use bits::mep_id_of;
 use bits::period_code_of;
 use bits::rdi_of;
 use octets::numbers::read_big;
-use octets::parts::same_octets;
+use same::same_octets;
 use settings::COUNT;
 use settings::PEERS;
 use settings::PERIOD;

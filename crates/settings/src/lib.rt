@@ -4,8 +4,8 @@ ghost use mathlib.Core.Path.{_≡_};
 ghost use lib.ListN.{getD};
 ghost use Rattle.settings.specs.Settings.{settingsOf, addressAt};
 ghost use Rattle.settings.specs.Valid.{numbersGood, addressesGood, valid};
-use octets::parts::same_octets;
 use peerids::peers_good;
+use same::same_octets;
 
 // How many peers a box has room for: the code's only 8. The definitions have theirs, `slots`.
 pub const PEERS: usize = 8;

@@ -4,12 +4,12 @@ ghost use mathlib.Core.Path.{_≡_};
 ghost use Rattle.whole.specs.Lists.{every};
 ghost use Rattle.values.specs.Values.{isZero, zeroPattern, outcomeOf, sameData, zeroTest};
 ghost use Rattle.values.specs.Told.{told, sameNumbers, zeroNumbers};
-use octets::parts::same_octets;
 use reader::tlv_answer;
 use reader::tlv_value;
 use reasons::Bad;
 use reasons::TlvAnswer;
 use reasons::tell as tell_reader;
+use same::same_octets;
 
 // What a value was found to be.
 pub enum ValueAnswer {

@@ -2,14 +2,13 @@
 use native.Mathlib.Omega.{arith}
 use mathlib.Core.Path.{_≡_, sym, ap, _∙_}
 use mathlib.Core.Bool.{true}
-use Prim.Native.Nat.{ℕ, _+_, _≤_, _<_}
+use Prim.Native.Nat.{_≤_, _<_}
 use denote.Ref.{now}
 use lib.ListN.{length}
 use borrow.Author.Needs.{needs}
 use borrow.Author.Tests.{not-true, not-false}
 use Rattle.opcodes.specs.declared.Rule.{Rule}
 use Rattle.opcodes.specs.Opcodes.{known, ruleOf}
-use Rattle.judge.specs.declared.Head.the-variants as head
 use Rattle.frame.specs.Head.{opcodeOf, offsetOf}
 use Rattle.judge.proofs.Judged.{pdu-short, pdu-opcode, pdu-offset, pdu-tlvs}
 use Rattle.judge.proofs.judge_pdu.Statement.{statement}
@@ -38,27 +37,26 @@ returns-2 : tie.Need-returns-2
 returns-2 c = let p = now (c .before .before .before .before .before .before .args .pdu) in
     sym (pdu-opcode p (omega arith) (in-table (c .before) ∙ not-true _ (c .if2 .taken)))
 
-octet-requires : tie.Need-octet-requires
-octet-requires c κs = search needs
+shared-slice-read-offset : tie.Need-shared-slice-read-offset
+shared-slice-read-offset c = search needs
 
 cast-offset : tie.Need-cast-offset
-cast-offset c = search needs
+cast-offset c = omega (arith, c .shared-slice-known3 .given 3)
 
 returns-3 : tie.Need-returns-3
 returns-3 c = let d = c .before .before in
     let p = now (d .before .before .before .before .before .before .args .pdu) in
-    let small : offsetOf p < ruleOf (opcodeOf p) .least = omega (arith, c .before .octet .ensures .is, least (d .before), c .if3 .taken) in
+    let small : offsetOf p < ruleOf (opcodeOf p) .least = omega (arith, least (d .before), c .if3 .taken) in
     sym (pdu-offset p (omega arith) (in-table (d .before) ∙ not-false _ (d .if2 .left)) small)
 
 add-t6 : tie.Need-add-t6
-add-t6 c = search needs
+add-t6 c = omega (arith, c .before .shared-slice-known3 .given 3)
 
 returns-4 : tie.Need-returns-4
 returns-4 c = let d = c .before .before in
     let p = now (d .before .before .before .before .before .before .args .pdu) in
-    let large : ruleOf (opcodeOf p) .least ≤ offsetOf p = omega (arith, c .before .octet .ensures .is, least (d .before), c .if3 .left) in
-    ap (λ (n : ℕ). head.Tlvs (4 + n)) (c .before .octet .ensures .is)
-    ∙ sym (pdu-tlvs p (omega arith) (in-table (d .before) ∙ not-false _ (d .if2 .left)) large)
+    let large : ruleOf (opcodeOf p) .least ≤ offsetOf p = omega (arith, least (d .before), c .if3 .left) in
+    sym (pdu-tlvs p (omega arith) (in-table (d .before) ∙ not-false _ (d .if2 .left)) large)
 
 pub judge-pdu-spec : {M : Type 1} → statement M
 judge-pdu-spec =
@@ -69,7 +67,7 @@ judge-pdu-spec =
     rule-of-requires
     is-known-requires
     returns-2
-    octet-requires
+    shared-slice-read-offset
     cast-offset
     returns-3
     add-t6

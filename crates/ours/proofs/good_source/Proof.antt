@@ -5,7 +5,7 @@ use Rattle.ours.proofs.good_source.Statement.{statement}
 use Rattle.ours.proofs.good_source.Tie as tie
 use Rattle.ours.proofs.good_source.Reads as reads
 use Rattle.ours.proofs.good_source.Lts as lts
-use Rattle.octets.proofs.parts.same_octets.Reads as same-octets-reads
+use Rattle.same.proofs.same_octets.Reads as same-octets-reads
 use Rattle.ours.proofs.has_group_bit.Reads as has-group-bit-reads
 
 same-octets-requires : tie.Need-same-octets-requires

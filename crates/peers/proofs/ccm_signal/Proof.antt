@@ -24,7 +24,7 @@ use Rattle.bits.proofs.period_code_of.Reads as period-code-of-reads
 use Rattle.bits.proofs.rdi_of.Reads as rdi-of-reads
 use Rattle.peers.proofs.front.Reads as front-reads
 use Rattle.octets.proofs.numbers.read_big.Reads as read-big-reads
-use Rattle.octets.proofs.parts.same_octets.Reads as same-octets-reads
+use Rattle.same.proofs.same_octets.Reads as same-octets-reads
 use Rattle.words.proofs.place_of.Reads as place-of-reads
 
 -- our MEG ID stands behind the two addresses

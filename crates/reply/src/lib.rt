@@ -13,6 +13,24 @@ use octets::numbers::write_big;
 use octets::parts::copy_octets;
 use stamps::Stamp;
 
+// Places in a frame: the opcode, RxFCf and TxFCb of an LMR, RxTimeStampf and TxTimeStampb of a DMR.
+const OPCODE: usize = HEAD_LENGTH + 1;
+
+const RX_FCF: usize = HEAD_LENGTH + 8;
+
+const TX_FCB: usize = HEAD_LENGTH + 12;
+
+const RX_STAMP: usize = HEAD_LENGTH + 12;
+
+const TX_STAMP: usize = HEAD_LENGTH + 20;
+
+// Where the fixed parts of the three requests end.
+const LBM_FIXED: usize = HEAD_LENGTH + 8;
+
+const LMM_FIXED: usize = HEAD_LENGTH + 16;
+
+const DMM_FIXED: usize = HEAD_LENGTH + 36;
+
 // What writing a reply is answered.
 pub enum Replied {
     // D5: the request ends before its fixed part does. Never given to a frame that was judged before.
@@ -24,14 +42,14 @@ pub enum Replied {
 }
 
 // Writes the request with its source as destination, our address as source, and another opcode.
-fn write_reply(into: &mut [u8], request: &[u8], own: &[u8], opcode: u8)
-    requires { ⌜ (behindHead 4 ≤ length (now request)) × (length (now request) ≤ length (now into)) × (length (now own) ≡ 6) ⌝ }
+fn write_reply(into: &mut [u8], request: &[u8], own: &[u8; 6], opcode: u8)
+    requires { ⌜ (behindHead 4 ≤ length (now request)) × (length (now request) ≤ length (now into)) ⌝ }
     ensures { λ _. ⌜ now (into .exit) ≡ laid 0 (replyOctets (now (own .entry)) opcode (now (request .entry))) (now (into .entry)) ⌝ }
 {
     copy_octets(into, 0, request);
     copy_octets(into, 0, &request[6..12]);
     copy_octets(into, 6, own);
-    into[HEAD_LENGTH + 1] = opcode;
+    into[OPCODE] = opcode;
 }
 
 // Writes the reply to a loopback request.
@@ -39,7 +57,7 @@ pub fn write_lbr(into: &mut [u8], request: &[u8], own: [u8; 6]) -> Replied
     ensures { λ r. ⌜ (r ≡ repliedOf 4 (now (request .entry)) (lbrOctets own (now (request .entry))) (now (into .entry))) × (told r ≡ numbersOf 4 (now (request .entry)) (lbrOctets own (now (request .entry))) (now (into .entry))) ⌝ }
     ensures { λ _. ⌜ now (into .exit) ≡ leftOf 4 (now (request .entry)) (lbrOctets own (now (request .entry))) (now (into .entry)) ⌝ }
 {
-    if request.len() < HEAD_LENGTH + 8 {
+    if request.len() < LBM_FIXED {
         return Replied::CutOff;
     }
     if into.len() < request.len() {
@@ -54,15 +72,15 @@ pub fn write_lmr(into: &mut [u8], request: &[u8], own: [u8; 6], received: u32, s
     ensures { λ r. ⌜ (r ≡ repliedOf 12 (now (request .entry)) (lmrOctets own received sent (now (request .entry))) (now (into .entry))) × (told r ≡ numbersOf 12 (now (request .entry)) (lmrOctets own received sent (now (request .entry))) (now (into .entry))) ⌝ }
     ensures { λ _. ⌜ now (into .exit) ≡ leftOf 12 (now (request .entry)) (lmrOctets own received sent (now (request .entry))) (now (into .entry)) ⌝ }
 {
-    if request.len() < HEAD_LENGTH + 16 {
+    if request.len() < LMM_FIXED {
         return Replied::CutOff;
     }
     if into.len() < request.len() {
         return Replied::NoRoom;
     }
     write_reply(into, request, &own, 42);
-    write_big(into, HEAD_LENGTH + 8, 4, received);
-    write_big(into, HEAD_LENGTH + 12, 4, sent);
+    write_big(into, RX_FCF, 4, received);
+    write_big(into, TX_FCB, 4, sent);
     Replied::Octets(request.len())
 }
 
@@ -77,14 +95,14 @@ pub fn write_dmr(
     ensures { λ r. ⌜ (r ≡ repliedOf 32 (now (request .entry)) (dmrOctets own receive transmit (now (request .entry))) (now (into .entry))) × (told r ≡ numbersOf 32 (now (request .entry)) (dmrOctets own receive transmit (now (request .entry))) (now (into .entry))) ⌝ }
     ensures { λ _. ⌜ now (into .exit) ≡ leftOf 32 (now (request .entry)) (dmrOctets own receive transmit (now (request .entry))) (now (into .entry)) ⌝ }
 {
-    if request.len() < HEAD_LENGTH + 36 {
+    if request.len() < DMM_FIXED {
         return Replied::CutOff;
     }
     if into.len() < request.len() {
         return Replied::NoRoom;
     }
     write_reply(into, request, &own, 46);
-    write_stamp(into, HEAD_LENGTH + 12, receive);
-    write_stamp(into, HEAD_LENGTH + 20, transmit);
+    write_stamp(into, RX_STAMP, receive);
+    write_stamp(into, TX_STAMP, transmit);
     Replied::Octets(request.len())
 }

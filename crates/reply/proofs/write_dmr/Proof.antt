@@ -14,9 +14,6 @@ use Rattle.reply.proofs.write_dmr.Tie as tie
 six : (c : tie.Start) → length (c .args .t3) ≡ 6
 six c = search needs
 
-add-if1 : tie.Need-add-if1
-add-if1 c = search needs
-
 returns : tie.Need-returns
 returns c = let a = c .before .before .before .args in
     cut-off 32 (now (a .request)) (dmrOctets (a .t3) (a .receive) (a .transmit) (now (a .request))) (now (a .into)) (c .if1 .taken)
@@ -27,20 +24,11 @@ returns-2 c = let s = c .before .before .before .before in
     let whole = c .before .if1 .left in
     no-room 32 (now (a .request)) (dmrOctets (a .t3) (a .receive) (a .transmit) (now (a .request))) (now (a .into)) whole (dmr-long (a .t3) (now (a .request)) (six s) (a .receive) (a .transmit) (omega (arith, whole))) (c .if2 .taken)
 
-slice-aggregate-write-reply : tie.Need-slice-aggregate-write-reply
-slice-aggregate-write-reply c = search needs
-
 write-reply-requires : tie.Need-write-reply-requires
 write-reply-requires c κs = search needs
 
-add-write-stamp : tie.Need-add-write-stamp
-add-write-stamp c = search needs
-
 write-stamp-requires : tie.Need-write-stamp-requires
 write-stamp-requires c κs = search needs
-
-add-write-stamp-2 : tie.Need-add-write-stamp-2
-add-write-stamp-2 c = search needs
 
 write-stamp-requires-2 : tie.Need-write-stamp-requires-2
 write-stamp-requires-2 c κs = search needs
@@ -67,14 +55,10 @@ pub write-dmr-spec : {M : Type 1} → statement M
 write-dmr-spec =
     tie.close
     (tie.spec
-    add-if1
     returns
     returns-2
-    slice-aggregate-write-reply
     write-reply-requires
-    add-write-stamp
     write-stamp-requires
-    add-write-stamp-2
     write-stamp-requires-2
     same-length
     returns-3)

@@ -14,9 +14,6 @@ use Rattle.reply.proofs.write_lbr.Tie as tie
 six : (c : tie.Start) → length (c .args .t3) ≡ 6
 six c = search needs
 
-add-if1 : tie.Need-add-if1
-add-if1 c = search needs
-
 returns : tie.Need-returns
 returns c = let a = c .before .before .before .args in
     cut-off 4 (now (a .request)) (lbrOctets (a .t3) (now (a .request))) (now (a .into)) (c .if1 .taken)
@@ -26,9 +23,6 @@ returns-2 c = let s = c .before .before .before .before in
     let a = s .args in
     let whole = c .before .if1 .left in
     no-room 4 (now (a .request)) (lbrOctets (a .t3) (now (a .request))) (now (a .into)) whole (reply-long (a .t3) (now (a .request)) (six s) 2 (omega (arith, whole))) (c .if2 .taken)
-
-slice-aggregate-write-reply : tie.Need-slice-aggregate-write-reply
-slice-aggregate-write-reply c = search needs
 
 write-reply-requires : tie.Need-write-reply-requires
 write-reply-requires c κs = search needs
@@ -49,10 +43,8 @@ pub write-lbr-spec : {M : Type 1} → statement M
 write-lbr-spec =
     tie.close
     (tie.spec
-    add-if1
     returns
     returns-2
-    slice-aggregate-write-reply
     write-reply-requires
     same-length
     returns-3)

@@ -14,9 +14,6 @@ use Rattle.reply.proofs.write_lmr.Tie as tie
 six : (c : tie.Start) → length (c .args .t3) ≡ 6
 six c = search needs
 
-add-if1 : tie.Need-add-if1
-add-if1 c = search needs
-
 returns : tie.Need-returns
 returns c = let a = c .before .before .before .args in
     cut-off 12 (now (a .request)) (lmrOctets (a .t3) (a .received) (a .sent) (now (a .request))) (now (a .into)) (c .if1 .taken)
@@ -27,20 +24,11 @@ returns-2 c = let s = c .before .before .before .before in
     let whole = c .before .if1 .left in
     no-room 12 (now (a .request)) (lmrOctets (a .t3) (a .received) (a .sent) (now (a .request))) (now (a .into)) whole (lmr-long (a .t3) (now (a .request)) (six s) (a .received) (a .sent) (omega (arith, whole))) (c .if2 .taken)
 
-slice-aggregate-write-reply : tie.Need-slice-aggregate-write-reply
-slice-aggregate-write-reply c = search needs
-
 write-reply-requires : tie.Need-write-reply-requires
 write-reply-requires c κs = search needs
 
-add-write-big : tie.Need-add-write-big
-add-write-big c = search needs
-
 write-big-requires : tie.Need-write-big-requires
 write-big-requires c κs = search needs
-
-add-write-big-2 : tie.Need-add-write-big-2
-add-write-big-2 c = search needs
 
 write-big-requires-2 : tie.Need-write-big-requires-2
 write-big-requires-2 c κs = search needs
@@ -67,14 +55,10 @@ pub write-lmr-spec : {M : Type 1} → statement M
 write-lmr-spec =
     tie.close
     (tie.spec
-    add-if1
     returns
     returns-2
-    slice-aggregate-write-reply
     write-reply-requires
-    add-write-big
     write-big-requires
-    add-write-big-2
     write-big-requires-2
     same-length
     returns-3)

@@ -25,9 +25,6 @@ copy-octets-requires-2 c κs = search needs
 copy-octets-requires-3 : tie.Need-copy-octets-requires-3
 copy-octets-requires-3 c κs = search needs
 
-add-into : tie.Need-add-into
-add-into c = search needs
-
 slice-write-into : tie.Need-slice-write-into
 slice-write-into c = search needs
 
@@ -36,9 +33,9 @@ same-length c = simp length-set (omega arith)
 
 returns : tie.Need-returns
 returns c = let source = c .before .before in
-    let destination = source .before .before .before .before in
+    let destination = source .before .before .before .before .before in
     let whole = destination .before .before .before .before .before in
-    let s = whole .before .before .before .before .before in
+    let s = whole .before .before .before .before in
     let a = s .args in
     reply-laid (now (a .own)) (now (a .request)) (now (a .into)) (omega arith) (omega arith) (a .opcode) (omega arith)
     (whole .copy-octets .ensures)
@@ -55,7 +52,6 @@ write-reply-spec =
     part-copy-octets-end
     copy-octets-requires-2
     copy-octets-requires-3
-    add-into
     slice-write-into
     same-length
     returns)

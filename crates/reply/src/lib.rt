@@ -42,13 +42,13 @@ pub enum Replied {
 }
 
 // Writes the request with its source as destination, our address as source, and another opcode.
-fn write_reply(into: &mut [u8], request: &[u8], own: &[u8; 6], opcode: u8)
+fn write_reply(into: &mut [u8], request: &[u8], own: [u8; 6], opcode: u8)
     requires { ⌜ (behindHead 4 ≤ length (now request)) × (length (now request) ≤ length (now into)) ⌝ }
-    ensures { λ _. ⌜ now (into .exit) ≡ laid 0 (replyOctets (now (own .entry)) opcode (now (request .entry))) (now (into .entry)) ⌝ }
+    ensures { λ _. ⌜ now (into .exit) ≡ laid 0 (replyOctets own opcode (now (request .entry))) (now (into .entry)) ⌝ }
 {
     copy_octets(into, 0, request);
     copy_octets(into, 0, &request[6..12]);
-    copy_octets(into, 6, own);
+    copy_octets(into, 6, &own);
     into[OPCODE] = opcode;
 }
 
@@ -63,7 +63,7 @@ pub fn write_lbr(into: &mut [u8], request: &[u8], own: [u8; 6]) -> Replied
     if into.len() < request.len() {
         return Replied::NoRoom;
     }
-    write_reply(into, request, &own, 2);
+    write_reply(into, request, own, 2);
     Replied::Octets(request.len())
 }
 
@@ -78,7 +78,7 @@ pub fn write_lmr(into: &mut [u8], request: &[u8], own: [u8; 6], received: u32, s
     if into.len() < request.len() {
         return Replied::NoRoom;
     }
-    write_reply(into, request, &own, 42);
+    write_reply(into, request, own, 42);
     write_big(into, RX_FCF, 4, received);
     write_big(into, TX_FCB, 4, sent);
     Replied::Octets(request.len())
@@ -101,7 +101,7 @@ pub fn write_dmr(
     if into.len() < request.len() {
         return Replied::NoRoom;
     }
-    write_reply(into, request, &own, 46);
+    write_reply(into, request, own, 46);
     write_stamp(into, RX_STAMP, receive);
     write_stamp(into, TX_STAMP, transmit);
     Replied::Octets(request.len())

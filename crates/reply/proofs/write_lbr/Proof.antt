@@ -11,18 +11,18 @@ use Rattle.reply.proofs.write_lbr.Statement.{statement}
 use Rattle.reply.proofs.write_lbr.Tie as tie
 
 -- our address has six octets
-six : (c : tie.Start) → length (c .args .t3) ≡ 6
+six : (c : tie.Start) → length (c .args .own) ≡ 6
 six c = search needs
 
 returns : tie.Need-returns
 returns c = let a = c .before .before .before .args in
-    cut-off 4 (now (a .request)) (lbrOctets (a .t3) (now (a .request))) (now (a .into)) (c .if1 .taken)
+    cut-off 4 (now (a .request)) (lbrOctets (a .own) (now (a .request))) (now (a .into)) (c .if1 .taken)
 
 returns-2 : tie.Need-returns-2
 returns-2 c = let s = c .before .before .before .before in
     let a = s .args in
     let whole = c .before .if1 .left in
-    no-room 4 (now (a .request)) (lbrOctets (a .t3) (now (a .request))) (now (a .into)) whole (reply-long (a .t3) (now (a .request)) (six s) 2 (omega (arith, whole))) (c .if2 .taken)
+    no-room 4 (now (a .request)) (lbrOctets (a .own) (now (a .request))) (now (a .into)) whole (reply-long (a .own) (now (a .request)) (six s) 2 (omega (arith, whole))) (c .if2 .taken)
 
 write-reply-requires : tie.Need-write-reply-requires
 write-reply-requires c κs = search needs
@@ -32,11 +32,11 @@ same-length c = search needs
 
 returns-3 : tie.Need-returns-3
 returns-3 c = let reply = c .before .before in
-    let s = c .before .before .before .before .before .before .before .before .before in
+    let s = c .before .before .before .before .before .before .before .before in
     let a = s .args in
-    let whole = c .before .before .before .before .before .before .if1 .left in
-    let test = c .before .before .before .before .before .if2 in
-    room 4 (now (a .request)) (lbrOctets (a .t3) (now (a .request))) (now (a .into)) whole (reply-long (a .t3) (now (a .request)) (six s) 2 (omega (arith, whole))) (reply .write-reply .last .0) (test .left)
+    let whole = c .before .before .before .before .before .if1 .left in
+    let test = c .before .before .before .before .if2 in
+    room 4 (now (a .request)) (lbrOctets (a .own) (now (a .request))) (now (a .into)) whole (reply-long (a .own) (now (a .request)) (six s) 2 (omega (arith, whole))) (reply .write-reply .last .0) (test .left)
     (reply .write-reply .ensures)
 
 pub write-lbr-spec : {M : Type 1} → statement M

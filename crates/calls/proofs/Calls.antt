@@ -1,16 +1,17 @@
 -- The laws of the tests, one for each way that the code goes. Assumes nothing.
 use Prim.Native.Nat.{ℕ, _+_, _-_, _≤_, _<_}
-use mathlib.Core.Path.{_≡_, refl, sym, ap, _∙_}
-use mathlib.Core.Bool.{Bool, true, false, _&&_, not}
-use mathlib.Core.List.{List}
+use mathlib.Core.Path.{_≡_, ap, _∙_}
+use mathlib.Core.List.{List, [], _∷_, _++_}
+use mathlib.Core.Logic.{⊎-elim}
 use native.Mathlib.Omega.{arith}
-use lib.Dec.{eqb, ltb, leb}
-use lib.ListN.{length, getD}
-use borrow.Author.Tests.{lt-ltb, le-ltb, le-leb, lt-leb, eq-eqb, ne-eqb}
+use lib.Dec.{ltb}
+use lib.ListN.{length, getD, List·getD-append}
+use borrow.Author.Tests.{lt-ltb, le-ltb, le-leb, lt-leb, eq-eqb, ne-eqb, ltb-true, ltb-false}
 use Rattle.whole.specs.Tests.{choose}
 use Rattle.whole.specs.Lists.{part}
+use Rattle.whole.proofs.Tests.{known}
 use Rattle.octets.specs.Numbers.{littleEndian, number}
-use Rattle.calls.specs.Calls.{fewest, most, places, rowOf, placeOf, frontNumber, callLength, handsOver, roomAt, roomOf, bodyGood, sideGood, isCall}
+use Rattle.calls.specs.Calls.{places, rowOf, placeOf, frontNumber, callLength, roomAt, roomOf}
 
 -- ── the rows ──
 
@@ -27,6 +28,15 @@ module _ (n : ℕ) where
   unfolding rowOf
   row-in l h = rw (le-ltb n 257 l, le-ltb 272 n h)
 
+  -- as many rows as there are calls, and one for every other number
+  pub row-most : rowOf n < 17
+  row-most =
+      ⊎-elim (λ t. omega (arith, row-below (ltb-true n 257 t)))
+      (λ t.
+      let low : 257 ≤ n = ltb-false n 257 t in
+      ⊎-elim (λ u. omega (arith, row-above low (ltb-true 272 n u))) (λ u. omega (arith, low, ltb-false 272 n u, row-in low (ltb-false 272 n u))) (known (ltb 272 n)))
+      (known (ltb n 257))
+
   module _ {r : ℕ} (e : r ≡ rowOf n) where
     pub place-none : 16 ≤ r → 0 ≡ placeOf n
     unfolding placeOf
@@ -36,13 +46,18 @@ module _ (n : ℕ) where
     unfolding placeOf
     place-some h = rw (← e, lt-leb 16 r h)
 
-    pub body-none : (k : ℕ) → 16 ≤ r → false ≡ bodyGood n k
-    unfolding bodyGood
-    body-none k h = rw (← e, le-leb 16 r h)
-
-    pub body-some : (k : ℕ) → r < 16 → (leb (getD fewest r 0) k && leb k (getD most r 0)) ≡ bodyGood n k
-    unfolding bodyGood
-    body-some k h = rw (← e, lt-leb 16 r h)
+    -- what is read in the table with a row for every other number
+    pub place-read : getD (places ++ (0 ∷ [])) r 0 ≡ placeOf n
+    place-read =
+        ⊎-elim
+        (λ t.
+        let low : r < 16 = ltb-true r 16 t in
+        List·getD-append places (0 ∷ []) 0 r low ∙ place-some low)
+        (λ t.
+        let high : 16 ≤ r = ltb-false r 16 t in
+        let last : r ≡ 16 = omega (arith, row-most, e, high) in
+        ap (λ (k : ℕ). getD (places ++ (0 ∷ [])) k 0) last ∙ place-none high)
+        (known (ltb r 16))
 
 -- ── the length ──
 
@@ -78,29 +93,3 @@ module _ (call : List ℕ) where
     pub room-there : (place ≡ 0 → ⊥) → place ≤ length call - 2 → number littleEndian (part place 2 call) ≡ roomOf call
     unfolding roomOf roomAt choose
     room-there n h = rw (le-ltb (length call) 2 l, ← e, ne-eqb place 0 n, le-ltb (length call - 2) place h)
-
-  -- ── the side ──
-
-  module _ (n : ℕ) where
-    pub side-other : (n ≡ 258 → ⊥) → true ≡ sideGood n call
-    unfolding sideGood choose
-    side-other h = rw (ne-eqb n 258 h)
-
-    pub side-cut : n ≡ 258 → length call < 3 → true ≡ sideGood n call
-    unfolding sideGood choose
-    side-cut h l = rw (eq-eqb n 258 h, lt-ltb (length call) 3 l)
-
-    pub side-there : n ≡ 258 → 3 ≤ length call → leb (getD call 2 0) 1 ≡ sideGood n call
-    unfolding sideGood choose
-    side-there h l = rw (eq-eqb n 258 h, le-ltb (length call) 3 l)
-
-  -- ── all of it ──
-
-  pub call-cut : length call < 2 → false ≡ isCall call
-  unfolding isCall
-  call-cut h = rw (lt-ltb (length call) 2 h)
-
-  pub call-is : 2 ≤ length call
-      → (bodyGood (frontNumber call) (length call - 2) && sideGood (frontNumber call) call && leb (roomOf call) 1600) ≡ isCall call
-  unfolding isCall
-  call-is h = rw (le-ltb (length call) 2 h)

@@ -1,9 +1,8 @@
 -- Recorded calls, framed as stored records are: little-endian, a two-octet length of all that follows it, from 2 to 2,000, a two-octet call
--- number, the body. Any other length, an unknown number, a body of a wrong length, a side above 1 or a buffer above 1,600 is a bad call.
--- Definitions and the statement only.
-use Prim.Native.Nat.{ℕ, _+_, _-_, _≤_, _<_}
+-- number, the body. Any other length is a bad call's; which other calls are bad stands in goodcalls. Definitions and the statement only.
+use Prim.Native.Nat.{ℕ, _-_, _≤_, _<_}
 use mathlib.Core.Path.{_≡_}
-use mathlib.Core.Bool.{Bool, true, false, _&&_, not, cond}
+use mathlib.Core.Bool.{Bool, true, cond}
 use mathlib.Core.List.{List, [], _∷_}
 use mathlib.Core.Logic.{_↔_, _⊎_}
 use lib.Dec.{eqb, ltb, leb}
@@ -14,13 +13,6 @@ use Rattle.octets.specs.Numbers.{littleEndian, number}
 
 -- ── the table of calls, from number 257 on: new setting, frame, tick, clear, send LMM, send DMM, put and show a state, ask a TLV, put and measure on
 -- the lent session, read and write a settings record, read and write a loss line, conditions ──
-
--- the fewest and the most octets of the body
-abbrev pub fewest : List ℕ
-fewest = 81 ∷ 19 ∷ 2 ∷ 0 ∷ 2 ∷ 10 ∷ 194 ∷ 0 ∷ 1 ∷ 37 ∷ 16 ∷ 0 ∷ 83 ∷ 0 ∷ 22 ∷ 0 ∷ []
-
-abbrev pub most : List ℕ
-most = 81 ∷ 1998 ∷ 2 ∷ 0 ∷ 2 ∷ 10 ∷ 194 ∷ 0 ∷ 1998 ∷ 37 ∷ 16 ∷ 1998 ∷ 83 ∷ 1998 ∷ 22 ∷ 0 ∷ []
 
 -- where behind the call's length the buffer's stands, in two octets; 0 for a call that hands over none
 abbrev pub places : List ℕ
@@ -54,36 +46,8 @@ roomAt place call = choose ((eqb place 0, 0) ∷ (ltb (length call - 2) place, 0
 unfoldable pub roomOf : List ℕ → ℕ
 roomOf call = cond (ltb (length call) 2) 0 (roomAt (placeOf (frontNumber call)) call)
 
--- its number is known, and its body has n octets
-unfoldable pub bodyGood : ℕ → ℕ → Bool
-bodyGood which n = cond (leb 16 (rowOf which)) false (leb (getD fewest (rowOf which) 0) n && leb n (getD most (rowOf which) 0))
-
--- the side of a frame is 0 or 1
-unfoldable pub sideGood : ℕ → List ℕ → Bool
-sideGood which call = choose ((not (eqb which 258), true) ∷ (ltb (length call) 3, true) ∷ []) (leb (getD call 2 0) 1)
-
--- all of it
-unfoldable pub isCall : List ℕ → Bool
-isCall call =
-    cond (ltb (length call) 2) false (bodyGood (frontNumber call) (length call - 2) && sideGood (frontNumber call) call && leb (roomOf call) 1600)
-
--- ── what is meant ──
-
--- a call without its length
-pub record IsCall (call : List ℕ) : Type 0 where
-  pub numbered : 2 ≤ length call
-  pub known : (257 ≤ frontNumber call) × (frontNumber call ≤ 272)
-  -- its body is as long as the call's row says
-  pub enough : getD fewest (rowOf (frontNumber call)) 0 + 2 ≤ length call
-  pub few : length call ≤ getD most (rowOf (frontNumber call)) 0 + 2
-  -- the side of a frame, and the buffer
-  pub side : frontNumber call ≡ 258 → getD call 2 0 ≤ 1
-  pub room : roomOf call ≤ 1600
-
 -- what is said of every call
 pub record Calls : Type 0 where
-  -- what is tested is what is meant
-  pub good : (call : List ℕ) → (isCall call ≡ true) ↔ IsCall call
   -- a length from 2 to 2,000 is told as it stands, and no other
   pub told : (head : List ℕ) → 2 ≤ frontNumber head → frontNumber head ≤ 2000 → callLength head ≡ frontNumber head
   pub bad : (head : List ℕ) → (callLength head ≡ 0) ↔ ((frontNumber head < 2) ⊎ (2000 < frontNumber head))

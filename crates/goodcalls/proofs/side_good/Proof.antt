@@ -1,10 +1,10 @@
--- `calls::side_good` meets its contract, by its two tests.
+-- `goodcalls::side_good` meets its contract, by its two tests.
 use native.Mathlib.Omega.{arith}
 use denote.Ref.{now}
-use Rattle.calls.proofs.Calls.{side-other, side-cut, side-there}
+use Rattle.goodcalls.proofs.GoodCalls.{side-other, side-cut, side-there}
 use borrow.Author.Needs.{needs}
-use Rattle.calls.proofs.side_good.Statement.{statement}
-use Rattle.calls.proofs.side_good.Tie as tie
+use Rattle.goodcalls.proofs.side_good.Statement.{statement}
+use Rattle.goodcalls.proofs.side_good.Tie as tie
 
 returns : tie.Need-returns
 returns c = side-other (now (c .before .args .call)) (c .before .args .number) (c .if1 .taken)

@@ -1,0 +1,3 @@
+pub mod GoodCalls
+pub mod Meaning
+pub mod One

@@ -2,7 +2,7 @@
 use session::LossSession;
 use session::cleared;
 use settings::PEERS;
-use stateoctets::StateArrays;
+use statelayout::StateArrays;
 
 // The state and the lent session.
 pub(crate) struct Held {

@@ -41,7 +41,7 @@ use libc::STDIN_FILENO;
 use libc::STDOUT_FILENO;
 use octets::numbers::read_little;
 use spelling::write_word;
-use stateoctets::StateArrays;
+use statelayout::StateArrays;
 
 // Room for the longest line: 1,600 octets in hex, and the answer before them.
 const LINE: usize = 4096;

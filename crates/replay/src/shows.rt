@@ -14,7 +14,7 @@ use sends::tell_lmm;
 use settings::COUNT;
 use settings::PEERS;
 use spelling::write_word;
-use stateoctets::StateArrays;
+use statelayout::StateArrays;
 use stateoctets::state_octets;
 
 // 261: an LMM.

@@ -25,9 +25,9 @@ use octets::parts::copy_octets;
 use receive::on_frame;
 use spelling::write_word;
 use start::new_setting;
-use stateoctets::STATE;
-use stateoctets::StateArrays;
-use stateoctets::state_in;
+use statein::state_in;
+use statelayout::STATE;
+use statelayout::StateArrays;
 use tick::tick;
 
 // 257: the state that the setting starts with, zeros where it is refused.

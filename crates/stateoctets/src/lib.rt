@@ -1,23 +1,16 @@
-// A state in 194 octets, as recorded runs put and show it: settings 81, sent and received, the peers' timers, their RDI, the timers of the
-// conditions and the ticks to the next CCM, the session 37.
+// The 194 octets of a state, written from its seven arrays.
 ghost use mathlib.Core.Path.{_≡_};
 ghost use mathlib.Core.List.{[], _∷_};
 ghost use Prim.Native.Nat.{_+_, _*_, _≤_};
-ghost use lib.ListN.{length, getD, drop};
+ghost use lib.ListN.{length, getD};
 ghost use Rattle.whole.specs.Lists.{laid};
 ghost use Rattle.state.specs.State.{lying};
-ghost use Rattle.stateoctets.specs.Words.{wordsOctets, wordsIn};
-ghost use Rattle.stateoctets.specs.State.{stateOctets, runningOctets, stateAt, runAt, arraysOf};
-use octets::numbers::read_little;
+ghost use Rattle.statelayout.specs.Words.{wordsOctets};
+ghost use Rattle.statelayout.specs.State.{stateOctets, runningOctets};
 use octets::numbers::write_little;
 use octets::parts::copy_octets;
-use session::LossSession;
-use sessionoctets::SESSION;
-use sessionoctets::session_in;
 use sessionoctets::session_octets;
 use settings::PEERS;
-use settingsbody::BODY;
-use settingsbody::settings_of;
 use settingsoctets::body_of;
 use state::AIS;
 use state::LCK;
@@ -29,36 +22,7 @@ use state::UNEXPECTED_LEVEL;
 use state::UNEXPECTED_MEP;
 use state::UNEXPECTED_PERIOD;
 use state::session_of;
-
-// The octets of a state.
-pub const STATE: usize = 194;
-
-// A state as it lies in its seven arrays.
-#[repr(C)]
-pub struct StateArrays {
-    pub set: [u32; 4],
-    pub names: [u8; 60],
-    pub ids: [u32; PEERS],
-    pub timers: [u32; PEERS],
-    pub rdi: [u32; PEERS],
-    pub run: [u32; 15],
-    pub totals: [i64; 2],
-}
-
-// Reads a word for each place of `words` from a place on, n octets each.
-fn read_words(words: &mut [u32], from: &[u8], at: usize, n: usize)
-    requires { ⌜ (n ≤ 4) × (at + n * length (now words) ≤ length (now from)) ⌝ }
-    ensures { λ _. ⌜ now (words .exit) ≡ wordsIn n (length (now (words .entry))) (drop at (now (from .entry))) ⌝ }
-{
-    let all = words.len();
-    let mut place = at;
-    let mut i: usize = 0;
-    while i < all {
-        words[i] = read_little(from, place, n);
-        place += n;
-        i += 1;
-    }
-}
+use statelayout::STATE;
 
 // Writes words from a place on, n octets each.
 fn write_words(into: &mut [u8], at: usize, n: usize, words: &[u32])
@@ -71,62 +35,6 @@ fn write_words(into: &mut [u8], at: usize, n: usize, words: &[u32])
         write_little(into, place, n, words[i]);
         place += n;
         i += 1;
-    }
-}
-
-// The running words of a state in these octets whose session is known.
-fn run_in(from: &[u8; STATE], s: LossSession) -> [u32; 15]
-    ensures { λ r. ⌜ r ≡ runAt (now (from .entry)) s ⌝ }
-{
-    let last = s.last;
-    // mismerge, level, MEP, period, AIS, LCK, ticks to the next CCM, sent, received, the session's
-    [
-        read_little(from, 129, 4),
-        read_little(from, 141, 4),
-        read_little(from, 133, 4),
-        read_little(from, 137, 4),
-        read_little(from, 145, 4),
-        read_little(from, 149, 4),
-        read_little(from, 153, 4),
-        read_little(from, 81, 4),
-        read_little(from, 85, 4),
-        s.kept,
-        last.txf,
-        last.rxf,
-        last.txb,
-        last.ours,
-        s.intervals,
-    ]
-}
-
-// The state in these octets, taken as it stands: nothing is tested.
-pub fn state_in(from: &[u8; STATE]) -> StateArrays
-    ensures { λ r. ⌜ r ≡ arraysOf (stateAt (now (from .entry))) ⌝ }
-{
-    let all: &[u8] = from;
-    let mut front = [0u8; BODY];
-    copy_octets(&mut front, 0, &all[0..81]);
-    let settings = settings_of(&front);
-    let mut timers = [0u32; PEERS];
-    read_words(&mut timers, all, 89, 4);
-    let mut rdi = [0u32; PEERS];
-    read_words(&mut rdi, all, 121, 1);
-    let mut back = [0u8; SESSION];
-    copy_octets(&mut back, 0, &all[157..194]);
-    let session = session_in(&back);
-    let run = run_in(from, session);
-    let set = settings.set;
-    let names = settings.names;
-    let ids = settings.ids;
-    let totals = [session.near, session.far];
-    StateArrays {
-        set,
-        names,
-        ids,
-        timers,
-        rdi,
-        run,
-        totals,
     }
 }
 

@@ -10,7 +10,7 @@ use Rattle.state.specs.State.{lying}
 use Rattle.settingsbody.specs.Body.{Shaped}
 use Rattle.settingsbody.proofs.Lying.{lying-shaped}
 use Rattle.sessionoctets.specs.Session.{sessionOctets}
-use Rattle.stateoctets.proofs.State.{state-laid}
+use Rattle.statelayout.proofs.State.{state-laid}
 use borrow.Author.Needs.{needs}
 use Rattle.stateoctets.proofs.state_octets.Statement.{statement}
 use Rattle.stateoctets.proofs.state_octets.Tie as tie

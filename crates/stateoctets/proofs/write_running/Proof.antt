@@ -2,7 +2,7 @@
 use mathlib.Core.Path.{refl}
 use native.Mathlib.Omega.{arith}
 use denote.Ref.{now}
-use Rattle.stateoctets.proofs.State.{running-laid}
+use Rattle.statelayout.proofs.State.{running-laid}
 use borrow.Author.Needs.{needs}
 use Rattle.stateoctets.proofs.write_running.Statement.{statement}
 use Rattle.stateoctets.proofs.write_running.Tie as tie

@@ -10,8 +10,8 @@ use lib.ListN.{length, getD, take}
 use lib.Seq.{take-all}
 use Rattle.whole.specs.Lists.{laid}
 use Rattle.sessionoctets.specs.Session.{field}
-use Rattle.stateoctets.specs.Words.{wordsOctets}
-use Rattle.stateoctets.proofs.Words.{next-place, place-fits, write-start, write-turn}
+use Rattle.statelayout.specs.Words.{wordsOctets}
+use Rattle.statelayout.proofs.Words.{next-place, place-fits, write-start, write-turn}
 use borrow.Author.Needs.{needs}
 use Rattle.stateoctets.proofs.write_words.Statement.{statement}
 use Rattle.stateoctets.proofs.write_words.Tie as tie

@@ -1,4 +1,4 @@
--- `stateoctets::read_words` meets its contract. The invariant: the first i words are read, and `place` is where the next one stands. The measure is
+-- `statein::read_words` meets its contract. The invariant: the first i words are read, and `place` is where the next one stands. The measure is
 -- how many are left.
 use Prim.Native.Nat.{ℕ, _+_, _*_, _-_, _≤_}
 use mathlib.Core.Path.{_≡_, refl, ap, _∙_}
@@ -9,11 +9,11 @@ use denote.Ref.{now}
 use lib.ListN.{length, set, drop, length-set}
 use Rattle.whole.specs.Lists.{laid}
 use Rattle.sessionoctets.specs.Session.{fieldAt}
-use Rattle.stateoctets.specs.Words.{wordsIn}
-use Rattle.stateoctets.proofs.Words.{next-place, place-fits, read-start, read-turn, read-all}
+use Rattle.statelayout.specs.Words.{wordsIn}
+use Rattle.statelayout.proofs.Words.{next-place, place-fits, read-start, read-turn, read-all}
 use borrow.Author.Needs.{needs}
-use Rattle.stateoctets.proofs.read_words.Statement.{statement}
-use Rattle.stateoctets.proofs.read_words.Tie as tie
+use Rattle.statein.proofs.read_words.Statement.{statement}
+use Rattle.statein.proofs.read_words.Tie as tie
 
 abbrev Inv-loop : tie.InvT-loop
 Inv-loop words₀ from at n all place₀ i₀ words place i =

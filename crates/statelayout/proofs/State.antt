@@ -19,9 +19,9 @@ use Rattle.settingsbody.proofs.Bodies.{long, again, shaped}
 use Rattle.settingsbody.proofs.Lying.{lying}
 use Rattle.sessionoctets.specs.Session.{field, fieldAt, sessionOctets, sessionAt}
 use Rattle.sessionoctets.proofs.Session as session
-use Rattle.stateoctets.specs.Words.{wordsOctets, wordsIn}
-use Rattle.stateoctets.specs.State.{runningOctets, stateOctets, stateAt, arraysOf, shown, StatesInOctets}
-use Rattle.stateoctets.proofs.Words.{words-long, words-again}
+use Rattle.statelayout.specs.Words.{wordsOctets, wordsIn}
+use Rattle.statelayout.specs.State.{runningOctets, stateOctets, stateAt, arraysOf, shown, StatesInOctets}
+use Rattle.statelayout.proofs.Words.{words-long, words-again}
 
 -- ── how long ──
 

@@ -13,8 +13,8 @@ use Rattle.state.specs.State.{State, viewOf}
 use Rattle.settingsbody.specs.Body.{settingsBody, settingsIn, Shaped}
 use Rattle.settingsbody.specs.Lying.{setOf, namesOf}
 use Rattle.sessionoctets.specs.Session.{fieldAt, sessionOctets, sessionAt}
-use Rattle.stateoctets.specs.declared.StateArrays.{StateArrays}
-use Rattle.stateoctets.specs.Words.{wordsOctets, wordsIn}
+use Rattle.statelayout.specs.declared.StateArrays.{StateArrays}
+use Rattle.statelayout.specs.Words.{wordsOctets, wordsIn}
 
 -- what stands between settings and session: the counts, the slots' timers and RDI, the other words
 unfoldable pub runningOctets : List ℕ → List ℕ → List ℕ → List ℕ → List ℕ

@@ -13,7 +13,7 @@ use Rattle.whole.proofs.Apart.{laid-whole}
 use Rattle.octets.specs.Numbers.{littleEndian, Octets}
 use Rattle.octets.proofs.Laws.{length-octets, number-here, read-again}
 use Rattle.sessionoctets.specs.Session.{field, fieldAt}
-use Rattle.stateoctets.specs.Words.{wordsOctets, wordsIn, WordsInOctets}
+use Rattle.statelayout.specs.Words.{wordsOctets, wordsIn, WordsInOctets}
 
 module _ (n : ℕ) where
   -- one place more is n octets more

@@ -1,7 +1,7 @@
--- `stateoctets::run_in` meets its contract: each word from its field, or from the session.
+-- `statein::run_in` meets its contract: each word from its field, or from the session.
 use borrow.Author.Needs.{needs}
-use Rattle.stateoctets.proofs.run_in.Statement.{statement}
-use Rattle.stateoctets.proofs.run_in.Tie as tie
+use Rattle.statein.proofs.run_in.Statement.{statement}
+use Rattle.statein.proofs.run_in.Tie as tie
 
 read-little-requires : tie.Need-read-little-requires
 read-little-requires c κs = search needs

@@ -1,4 +1,4 @@
--- `stateoctets::state_in` meets its contract: the settings, the words of the slots, the session, and the running words.
+-- `statein::state_in` meets its contract: the settings, the words of the slots, the session, and the running words.
 use mathlib.Core.Path.{_≡_, refl, _∙_}
 use denote.Ref.{now}
 use lib.ListN.{length, replicate}
@@ -9,8 +9,8 @@ use Rattle.whole.specs.Lists.{part}
 use Rattle.whole.proofs.Lists.{length-part}
 use Rattle.whole.proofs.Apart.{laid-whole}
 use borrow.Author.Needs.{needs}
-use Rattle.stateoctets.proofs.state_in.Statement.{statement}
-use Rattle.stateoctets.proofs.state_in.Tie as tie
+use Rattle.statein.proofs.state_in.Statement.{statement}
+use Rattle.statein.proofs.state_in.Tie as tie
 
 slice-aggregate-copy-octets : tie.Need-slice-aggregate-copy-octets
 slice-aggregate-copy-octets c = search needs

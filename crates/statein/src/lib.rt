@@ -1,0 +1,87 @@
+// The state in 194 octets, read into its seven arrays.
+ghost use mathlib.Core.Path.{_≡_};
+ghost use Prim.Native.Nat.{_+_, _*_, _≤_};
+ghost use lib.ListN.{length, drop};
+ghost use Rattle.statelayout.specs.Words.{wordsIn};
+ghost use Rattle.statelayout.specs.State.{stateAt, runAt, arraysOf};
+use octets::numbers::read_little;
+use octets::parts::copy_octets;
+use session::LossSession;
+use sessionoctets::SESSION;
+use sessionoctets::session_in;
+use settings::PEERS;
+use settingsbody::BODY;
+use settingsbody::settings_of;
+use statelayout::STATE;
+use statelayout::StateArrays;
+
+// Reads a word for each place of `words` from a place on, n octets each.
+fn read_words(words: &mut [u32], from: &[u8], at: usize, n: usize)
+    requires { ⌜ (n ≤ 4) × (at + n * length (now words) ≤ length (now from)) ⌝ }
+    ensures { λ _. ⌜ now (words .exit) ≡ wordsIn n (length (now (words .entry))) (drop at (now (from .entry))) ⌝ }
+{
+    let all = words.len();
+    let mut place = at;
+    let mut i: usize = 0;
+    while i < all {
+        words[i] = read_little(from, place, n);
+        place += n;
+        i += 1;
+    }
+}
+
+// The running words of a state in these octets whose session is known.
+fn run_in(from: &[u8; STATE], s: LossSession) -> [u32; 15]
+    ensures { λ r. ⌜ r ≡ runAt (now (from .entry)) s ⌝ }
+{
+    let last = s.last;
+    // mismerge, level, MEP, period, AIS, LCK, ticks to the next CCM, sent, received, the session's
+    [
+        read_little(from, 129, 4),
+        read_little(from, 141, 4),
+        read_little(from, 133, 4),
+        read_little(from, 137, 4),
+        read_little(from, 145, 4),
+        read_little(from, 149, 4),
+        read_little(from, 153, 4),
+        read_little(from, 81, 4),
+        read_little(from, 85, 4),
+        s.kept,
+        last.txf,
+        last.rxf,
+        last.txb,
+        last.ours,
+        s.intervals,
+    ]
+}
+
+// The state in these octets, taken as it stands: nothing is tested.
+pub fn state_in(from: &[u8; STATE]) -> StateArrays
+    ensures { λ r. ⌜ r ≡ arraysOf (stateAt (now (from .entry))) ⌝ }
+{
+    let all: &[u8] = from;
+    let mut front = [0u8; BODY];
+    copy_octets(&mut front, 0, &all[0..81]);
+    let settings = settings_of(&front);
+    let mut timers = [0u32; PEERS];
+    read_words(&mut timers, all, 89, 4);
+    let mut rdi = [0u32; PEERS];
+    read_words(&mut rdi, all, 121, 1);
+    let mut back = [0u8; SESSION];
+    copy_octets(&mut back, 0, &all[157..194]);
+    let session = session_in(&back);
+    let run = run_in(from, session);
+    let set = settings.set;
+    let names = settings.names;
+    let ids = settings.ids;
+    let totals = [session.near, session.far];
+    StateArrays {
+        set,
+        names,
+        ids,
+        timers,
+        rdi,
+        run,
+        totals,
+    }
+}

@@ -2,6 +2,7 @@
 ghost use mathlib.Core.Path.{_≡_};
 ghost use Prim.Native.Nat.{_+_, _*_, _≤_};
 ghost use lib.ListN.{length, drop};
+ghost use Rattle.settings.specs.Settings.{slots};
 ghost use Rattle.statelayout.specs.Words.{wordsIn};
 ghost use Rattle.statelayout.specs.State.{stateAt, runAt, arraysOf};
 use octets::numbers::read_little;
@@ -15,23 +16,25 @@ use settingsbody::settings_of;
 use statelayout::STATE;
 use statelayout::StateArrays;
 
-// Reads a word for each place of `words` from a place on, n octets each.
-fn read_words(words: &mut [u32], from: &[u8], at: usize, n: usize)
-    requires { ⌜ (n ≤ 4) × (at + n * length (now words) ≤ length (now from)) ⌝ }
-    ensures { λ _. ⌜ now (words .exit) ≡ wordsIn n (length (now (words .entry))) (drop at (now (from .entry))) ⌝ }
+// The words of the slots from a place on, n octets each.
+fn words_in(from: &[u8], at: usize, n: usize) -> [u32; PEERS]
+    requires { ⌜ (n ≤ 4) × (at + n * slots ≤ length (now from)) ⌝ }
+    ensures { λ r. ⌜ r ≡ wordsIn n slots (drop at (now (from .entry))) ⌝ }
 {
-    let all = words.len();
+    let mut words = [0u32; PEERS];
     let mut place = at;
     let mut i: usize = 0;
-    while i < all {
+    while i < PEERS {
         words[i] = read_little(from, place, n);
         place += n;
         i += 1;
     }
+    words
 }
 
 // The running words of a state in these octets whose session is known.
-fn run_in(from: &[u8; STATE], s: LossSession) -> [u32; 15]
+fn run_in(from: &[u8], s: LossSession) -> [u32; 15]
+    requires { ⌜ 157 ≤ length (now from) ⌝ }
     ensures { λ r. ⌜ r ≡ runAt (now (from .entry)) s ⌝ }
 {
     let last = s.last;
@@ -63,14 +66,12 @@ pub fn state_in(from: &[u8; STATE]) -> StateArrays
     let mut front = [0u8; BODY];
     copy_octets(&mut front, 0, &all[0..81]);
     let settings = settings_of(&front);
-    let mut timers = [0u32; PEERS];
-    read_words(&mut timers, all, 89, 4);
-    let mut rdi = [0u32; PEERS];
-    read_words(&mut rdi, all, 121, 1);
+    let timers = words_in(all, 89, 4);
+    let rdi = words_in(all, 121, 1);
     let mut back = [0u8; SESSION];
     copy_octets(&mut back, 0, &all[157..194]);
     let session = session_in(&back);
-    let run = run_in(from, session);
+    let run = run_in(all, session);
     let set = settings.set;
     let names = settings.names;
     let ids = settings.ids;

@@ -33,14 +33,14 @@ read-little-requires-9 c κs = search needs
 returns : tie.Need-returns
 returns c =
     rw (
-      c .before .before .before .before .before .before .before .before .before .before .before .before .before .before .before .before .read-little .ensures .is,
-      c .before .before .before .before .before .before .before .before .before .before .before .before .before .before .read-little2 .ensures .is,
-      c .before .before .before .before .before .before .before .before .before .before .before .before .read-little3 .ensures .is,
-      c .before .before .before .before .before .before .before .before .before .before .read-little4 .ensures .is,
-      c .before .before .before .before .before .before .before .before .read-little5 .ensures .is,
-      c .before .before .before .before .before .before .read-little6 .ensures .is,
-      c .before .before .before .before .read-little7 .ensures .is,
-      c .before .before .read-little8 .ensures .is,
+      c .before .before .before .before .before .before .before .before .read-little .ensures .is,
+      c .before .before .before .before .before .before .before .read-little2 .ensures .is,
+      c .before .before .before .before .before .before .read-little3 .ensures .is,
+      c .before .before .before .before .before .read-little4 .ensures .is,
+      c .before .before .before .before .read-little5 .ensures .is,
+      c .before .before .before .read-little6 .ensures .is,
+      c .before .before .read-little7 .ensures .is,
+      c .before .read-little8 .ensures .is,
       c .read-little9 .ensures .is,
     )
 

@@ -30,17 +30,11 @@ copy-octets-requires c κs = search needs
 settings-of-requires : tie.Need-settings-of-requires
 settings-of-requires c κs = search needs
 
-slice-aggregate-read-words : tie.Need-slice-aggregate-read-words
-slice-aggregate-read-words c = search needs
+words-in-requires : tie.Need-words-in-requires
+words-in-requires c κs = search needs
 
-read-words-requires : tie.Need-read-words-requires
-read-words-requires c κs = search needs
-
-slice-aggregate-read-words-2 : tie.Need-slice-aggregate-read-words-2
-slice-aggregate-read-words-2 c = search needs
-
-read-words-requires-2 : tie.Need-read-words-requires-2
-read-words-requires-2 c κs = search needs
+words-in-requires-2 : tie.Need-words-in-requires-2
+words-in-requires-2 c κs = search needs
 
 slice-aggregate-copy-octets-2 : tie.Need-slice-aggregate-copy-octets-2
 slice-aggregate-copy-octets-2 c = search needs
@@ -61,14 +55,14 @@ session-in-requires : tie.Need-session-in-requires
 session-in-requires c κs = search needs
 
 run-in-requires : tie.Need-run-in-requires
-run-in-requires c κs = search needs
+run-in-requires c κs = rw (c .before .before .before .before .before .before .before .before .before .before .before .before .before .before .all .given .0) (omega arith)
 
 returns : tie.Need-returns
 unfolding part
 returns c =
-    let from = now (c .before .before .before .before .before .before .before .before .before .before .before .before .before .before .before .before .before .before .before .before .before .before .before .before .args .from) in
-    let long : length from ≡ 194 = c .before .before .before .before .before .before .before .before .before .before .before .before .before .before .before .before .before .before .before .before .before .before .before .all .given .0 in
-    let f = c .before .before .before .before .before .before .before .before .before .before .before .before .before .before .before .before .before .before .before .before .copy-octets in
+    let from = now (c .before .before .before .before .before .before .before .before .before .before .before .before .before .before .before .before .before .before .before .before .args .from) in
+    let long : length from ≡ 194 = c .before .before .before .before .before .before .before .before .before .before .before .before .before .before .before .before .before .before .before .all .given .0 in
+    let f = c .before .before .before .before .before .before .before .before .before .before .before .before .before .before .before .before .copy-octets in
     let b = c .before .before .before .before .before .before .before .before .copy-octets2 in
     let s = c .before .before .before .before .before .session-in in
     let front : f .last .0 ≡ part 0 81 from = f .ensures ∙ laid-whole (replicate 81 0) (part 0 81 from) 81 refl (length-part 0 81 from (rw long (omega arith))) in
@@ -76,7 +70,7 @@ returns c =
     let near : toZ w64 (ofZ w64 (s .result .near)) ≡ s .result .near = search needs in
     let far : toZ w64 (ofZ w64 (s .result .far)) ≡ s .result .far = search needs in
     rw (near, far)
-    (rw (c .before .before .before .before .before .before .before .before .before .before .before .before .before .before .before .before .before .settings-of .ensures, front, c .before .before .before .before .before .before .before .before .before .before .before .before .before .before .before .read-words .ensures, c .before .before .before .before .before .before .before .before .before .before .before .before .read-words2 .ensures, c .before .before .before .before .run-in .ensures, s .ensures, back))
+    (rw (c .before .before .before .before .before .before .before .before .before .before .before .before .before .settings-of .ensures, front, c .before .before .before .before .before .before .before .before .before .before .before .before .words-in .ensures, c .before .before .before .before .before .before .before .before .before .before .before .words-in2 .ensures, c .before .before .before .before .run-in .ensures, s .ensures, back))
 
 pub state-in-spec : {M : Type 1} → statement M
 state-in-spec =
@@ -88,10 +82,8 @@ state-in-spec =
     part-copy-octets-end
     copy-octets-requires
     settings-of-requires
-    slice-aggregate-read-words
-    read-words-requires
-    slice-aggregate-read-words-2
-    read-words-requires-2
+    words-in-requires
+    words-in-requires-2
     slice-aggregate-copy-octets-2
     sub-copy-octets-2
     part-copy-octets-start-2

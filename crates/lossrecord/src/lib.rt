@@ -4,14 +4,13 @@ ghost use Prim.Native.Nat.{_≤_};
 ghost use lib.ListN.{length};
 ghost use Rattle.record.specs.Writing.{ended};
 ghost use Rattle.record.specs.Writing as written;
-ghost use Rattle.lossrecord.specs.Line.{sessionOf, keepsRules, lineBody, lineIn};
+ghost use Rattle.lossrecord.specs.Line.{keepsRules, lineIn};
 ghost use Rattle.lossrecord.specs.Calls.{readLine, writeLine, writtenNumbers, told, numbersOf};
 use octets::numbers::read_little;
 use octets::numbers::read_little_signed;
 use octets::numbers::write_little;
 use octets::numbers::write_little_signed;
 use record::RecordAnswer;
-use recordhead::HEAD;
 use recordhead::is_record;
 use recordhead::write_record;
 use session::LossSession;
@@ -22,6 +21,13 @@ use session::well_formed;
 const KIND: u16 = 2;
 
 const BODY: usize = 20;
+
+// Where the values stand in the record, behind its head.
+const NEAR: usize = 4;
+
+const FAR: usize = 12;
+
+const INTERVALS: usize = 20;
 
 // The octets of the whole record.
 pub const LINE: usize = 24;
@@ -51,11 +57,11 @@ pub struct LineTold {
     pub far: i64,
 }
 
-// A session that has the line's totals and intervals: the rules on them are the session's own.
-fn session_of(line: LossLine) -> LossSession
-    ensures { λ r. ⌜ r ≡ sessionOf line ⌝ }
+// Whether the line keeps the rules on intervals and totals: those of a session that has them.
+fn keeps_rules(line: LossLine) -> bool
+    ensures { λ r. ⌜ r ≡ keepsRules line ⌝ }
 {
-    LossSession {
+    well_formed(LossSession {
         kept: 1,
         intervals: line.intervals,
         last: Readings {
@@ -66,14 +72,7 @@ fn session_of(line: LossLine) -> LossSession
         },
         near: line.near,
         far: line.far,
-    }
-}
-
-// Whether the line keeps the rules on intervals and totals.
-fn keeps_rules(line: LossLine) -> bool
-    ensures { λ r. ⌜ r ≡ keepsRules line ⌝ }
-{
-    well_formed(session_of(line))
+    })
 }
 
 // The line in the octets of a record.
@@ -82,9 +81,9 @@ fn line_in(from: &[u8]) -> LossLine
     ensures { λ r. ⌜ r ≡ lineIn (now (from .entry)) ⌝ }
 {
     LossLine {
-        near: read_little_signed(from, HEAD),
-        far: read_little_signed(from, HEAD + 8),
-        intervals: read_little(from, HEAD + 16, 4),
+        near: read_little_signed(from, NEAR),
+        far: read_little_signed(from, FAR),
+        intervals: read_little(from, INTERVALS, 4),
     }
 }
 
@@ -102,22 +101,14 @@ pub fn read_line(from: &[u8]) -> LineAnswer
     LineAnswer::Line(line)
 }
 
-// The body of a line's record.
-fn body_of(line: LossLine) -> [u8; BODY]
-    ensures { λ r. ⌜ r ≡ lineBody line ⌝ }
+// Writes a loss line's record into the front of the buffer: refused with 4 where it breaks a rule, and then with 3 where there is no room.
+pub fn write_line(into: &mut [u8], line: LossLine) -> RecordAnswer
+    ensures { λ r. ⌜ (ended r (now (into .exit)) ≡ writeLine line (now (into .entry))) × (written.told r ≡ writtenNumbers line (now (into .entry))) ⌝ }
 {
     let mut body = [0u8; BODY];
     write_little_signed(&mut body, 0, line.near);
     write_little_signed(&mut body, 8, line.far);
     write_little(&mut body, 16, 4, line.intervals);
-    body
-}
-
-// Writes a loss line's record into the front of the buffer: refused with 4 where it breaks a rule, and then with 3 where there is no room.
-pub fn write_line(into: &mut [u8], line: LossLine) -> RecordAnswer
-    ensures { λ r. ⌜ (ended r (now (into .exit)) ≡ writeLine line (now (into .entry))) × (written.told r ≡ writtenNumbers line (now (into .entry))) ⌝ }
-{
-    let body = body_of(line);
     write_record(into, KIND, &body, keeps_rules(line))
 }
 

@@ -10,14 +10,8 @@ use Rattle.lossrecord.proofs.line_in.Tie as tie
 read-little-signed-requires : tie.Need-read-little-signed-requires
 read-little-signed-requires c κs = search needs
 
-add-read-little-signed : tie.Need-add-read-little-signed
-add-read-little-signed c = search needs
-
 read-little-signed-requires-2 : tie.Need-read-little-signed-requires-2
 read-little-signed-requires-2 c κs = search needs
-
-add-read-little : tie.Need-add-read-little
-add-read-little c = search needs
 
 read-little-requires : tie.Need-read-little-requires
 read-little-requires c κs = search needs
@@ -36,8 +30,6 @@ line-in-spec =
     tie.close
     (tie.spec
     read-little-signed-requires
-    add-read-little-signed
     read-little-signed-requires-2
-    add-read-little
     read-little-requires
     returns)

@@ -15,17 +15,19 @@ pub const SESSION: usize = 37;
 pub fn session_in(from: &[u8; SESSION]) -> LossSession
     ensures { λ r. ⌜ r ≡ sessionAt (now (from .entry)) ⌝ }
 {
+    // a view of an array costs once what the array costs at each call
+    let all: &[u8] = from;
     LossSession {
-        kept: read_little(from, 0, 1),
-        intervals: read_little(from, 33, 4),
+        kept: read_little(all, 0, 1),
+        intervals: read_little(all, 33, 4),
         last: Readings {
-            txf: read_little(from, 1, 4),
-            rxf: read_little(from, 5, 4),
-            txb: read_little(from, 9, 4),
-            ours: read_little(from, 13, 4),
+            txf: read_little(all, 1, 4),
+            rxf: read_little(all, 5, 4),
+            txb: read_little(all, 9, 4),
+            ours: read_little(all, 13, 4),
         },
-        near: read_little_signed(from, 17),
-        far: read_little_signed(from, 25),
+        near: read_little_signed(all, 17),
+        far: read_little_signed(all, 25),
     }
 }
 

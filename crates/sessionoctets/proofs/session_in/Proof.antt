@@ -32,18 +32,18 @@ read-little-signed-requires-2 c κs = search needs
 
 returns : tie.Need-returns
 returns c =
-    let n = c .before .before .read-little-signed in
+    let n = c .before .read-little-signed in
     let f = c .read-little-signed2 in
     let near : toZ w64 (ofZ w64 (n .result)) ≡ n .result = search needs in
     let far : toZ w64 (ofZ w64 (f .result)) ≡ f .result = search needs in
     rw (near, far)
     (rw (
-      c .before .before .before .before .before .before .before .before .before .before .before .before .before .before .read-little .ensures .is,
-      c .before .before .before .before .before .before .before .before .before .before .before .before .read-little2 .ensures .is,
-      c .before .before .before .before .before .before .before .before .before .before .read-little3 .ensures .is,
-      c .before .before .before .before .before .before .before .before .read-little4 .ensures .is,
-      c .before .before .before .before .before .before .read-little5 .ensures .is,
-      c .before .before .before .before .read-little6 .ensures .is,
+      c .before .before .before .before .before .before .before .read-little .ensures .is,
+      c .before .before .before .before .before .before .read-little2 .ensures .is,
+      c .before .before .before .before .before .read-little3 .ensures .is,
+      c .before .before .before .before .read-little4 .ensures .is,
+      c .before .before .before .read-little5 .ensures .is,
+      c .before .before .read-little6 .ensures .is,
       n .ensures,
       f .ensures,
     ))

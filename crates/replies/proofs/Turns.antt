@@ -87,12 +87,15 @@ module _ {start s : LossSession} {from before into : List ℕ} {i : ℕ} (t : So
       ends-worked start from before (record { records = t .records; refusal = 0; taken = length from / 16; session = s }) g h w (t .is)
 
   -- one more reply is answered
-  module _ (still : i < length from / 16) {a : Answered} {r : Readings} (e : r ≡ readingsIn left) (f : a ≡ readingOf s r) where
+  module _ (still : i < length from / 16) {a : Answered} (f : a ≡ readingOf s (readingsIn left)) where
+    abbrev r : Readings
+    r = readingsIn left
+
     abbrev others : List Readings
     others = repliesIn (length from / 16 - i - 1) (drop 16 left)
 
     next : repliesIn (length from / 16 - i) left ≡ r ∷ others
-    next = replies-next (length from / 16 - i) left (omega (arith, still)) ∙ ap (λ (x : Readings). x ∷ others) (sym e)
+    next = replies-next (length from / 16 - i) left (omega (arith, still))
 
     refusal-is : a .told .refusal ≡ numbersOf s r .refusal
     refusal-is = ap (λ (x : Answered). x .told .refusal) f

@@ -4,9 +4,11 @@ ghost use mathlib.Core.Path.{_≡_};
 ghost use Prim.Native.Nat.{_+_, _≤_};
 ghost use lib.ListN.{length, drop};
 ghost use Rattle.whole.specs.Lists.{laid};
+ghost use Rattle.card.specs.Lent.{readingOf};
 ghost use Rattle.lossrecord.specs.Line.{KeepsRules, lineRecord};
 ghost use Rattle.replies.specs.Replies.{readingsIn, lineOf};
 ghost use Rattle.replies.specs.Recount.{ended, answered, recountInto};
+use card::Answered;
 use card::answer;
 use lossrecord::LINE;
 use lossrecord::LossLine;
@@ -14,7 +16,6 @@ use lossrecord::write_line;
 use octets::numbers::read_little;
 use octets::parts::copy_octets;
 use session::LossSession;
-use session::Readings;
 use session::well_formed;
 
 // The octets of a reply: four counts of 32 bits.
@@ -30,17 +31,16 @@ pub struct Recounted {
     pub session: LossSession,
 }
 
-// The counts of the reply at a place: TxFCf, RxFCf, TxFCb and our own received count.
-fn readings_at(from: &[u8], at: usize) -> Readings
+// The session's answer to the reply at a place: TxFCf, RxFCf, TxFCb and our own received count.
+fn answer_at(from: &[u8], at: usize, s: LossSession) -> Answered
     requires { ⌜ at + 16 ≤ length (now from) ⌝ }
-    ensures { λ r. ⌜ r ≡ readingsIn (drop at (now (from .entry))) ⌝ }
+    ensures { λ r. ⌜ r ≡ readingOf s (readingsIn (drop at (now (from .entry)))) ⌝ }
 {
-    Readings {
-        txf: read_little(from, at, 4),
-        rxf: read_little(from, at + 4, 4),
-        txb: read_little(from, at + 8, 4),
-        ours: read_little(from, at + 12, 4),
-    }
+    let txf = read_little(from, at, 4);
+    let rxf = read_little(from, at + 4, 4);
+    let txb = read_little(from, at + 8, 4);
+    let ours = read_little(from, at + 12, 4);
+    answer(s, txf, rxf, txb, ours)
 }
 
 // Writes the line of a session as a record at a place.
@@ -86,14 +86,11 @@ pub fn recount(into: &mut [u8], from: &[u8], session: LossSession) -> Recounted
     }
     let mut i: usize = 0;
     while i < count {
-        let r = readings_at(from, i * REPLY);
-        let next = answer(s, r.txf, r.rxf, r.txb, r.ours);
-        let told = next.told;
-        if told.refusal != 0 {
-            return worked_to(told.refusal, i, s);
+        let next = answer_at(from, i * REPLY, s);
+        if next.told.refusal != 0 {
+            return worked_to(next.told.refusal, i, s);
         }
-        let after = next.session;
-        s = after;
+        s = next.session;
         put_record(into, i * LINE, s);
         i += 1;
     }

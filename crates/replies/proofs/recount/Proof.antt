@@ -46,14 +46,11 @@ loop-holds : tie.Need-loop-holds Inv-loop μ-loop
 loop-holds c = let a = c .before .before .before .before .before .args in
     (at-start (a .session) (now (a .from)) (now (a .into)), refl, omega arith, sym (c .before .before .well-formed .ensures) ∙ not-false _ (c .before .if1 .left))
 
-mul-readings-at : tie.Need-mul-readings-at Inv-loop μ-loop
-mul-readings-at c = search needs
+mul-answer-at : tie.Need-mul-answer-at Inv-loop μ-loop
+mul-answer-at c = search needs
 
-readings-at-requires : tie.Need-readings-at-requires Inv-loop μ-loop
-readings-at-requires c κs = search needs
-
-answer-requires : tie.Need-answer-requires Inv-loop μ-loop
-answer-requires c κs = search needs
+answer-at-requires : tie.Need-answer-at-requires Inv-loop μ-loop
+answer-at-requires c κs = search needs
 
 worked-to-requires-3 : tie.Need-worked-to-requires-3 Inv-loop μ-loop
 worked-to-requires-3 c κs = search needs
@@ -63,21 +60,20 @@ same-length c = search needs
 
 returns-3 : tie.Need-returns-3 Inv-loop μ-loop
 returns-3 c = let d = c .before in
-    let g = d .before .before .before in
-    let l = g .before .before .before .loop in
+    let g = d .before .before in
+    let l = g .before .before .loop in
     ap (λ (r : Recounted). ended r (l .into)) (c .worked-to3 .ensures)
-    ∙ turn-stops (l .inv .0) (l .inv .3) (l .inv .2) (g .before .before .loop-test .taken) (g .before .readings-at .ensures) (g .answer .ensures) (d .if3 .taken)
+    ∙ turn-stops (l .inv .0) (l .inv .3) (l .inv .2) (g .before .loop-test .taken) (g .answer-at .ensures) (d .if3 .taken)
 
 mul-put-record : tie.Need-mul-put-record Inv-loop μ-loop
 mul-put-record c = search needs
 
 put-record-requires : tie.Need-put-record-requires Inv-loop μ-loop
 put-record-requires c κs = let t = c .before .before in
-    let g = t .before .before .before in
-    let l = g .before .before .before .loop in
-    let still = g .before .before .loop-test .taken in
-    let e = g .before .readings-at .ensures in
-    (turn-room (l .inv .0) (l .inv .3) (l .inv .2) still e (g .answer .ensures) (t .if3 .left), turn-kept (l .inv .0) (l .inv .3) (l .inv .2) still e (g .answer .ensures) (t .if3 .left))
+    let g = t .before .before in
+    let l = g .before .before .loop in
+    let still = g .before .loop-test .taken in
+    (turn-room (l .inv .0) (l .inv .3) (l .inv .2) still (g .answer-at .ensures) (t .if3 .left), turn-kept (l .inv .0) (l .inv .3) (l .inv .2) still (g .answer-at .ensures) (t .if3 .left))
 
 add-i : tie.Need-add-i Inv-loop μ-loop
 add-i c = search needs
@@ -88,9 +84,9 @@ loop-less c = search needs
 loop-again : tie.Need-loop-again Inv-loop μ-loop
 loop-again c = let p = c .before .before in
     let t = p .before .before .before in
-    let g = t .before .before .before in
-    let l = g .before .before .before .loop in
-    (turn-goes (l .inv .0) (l .inv .3) (l .inv .2) (g .before .before .loop-test .taken) (g .before .readings-at .ensures) (g .answer .ensures) (t .if3 .left) (p .put-record .ensures), refl, l .inv .2, l .inv .3)
+    let g = t .before .before in
+    let l = g .before .before .loop in
+    (turn-goes (l .inv .0) (l .inv .3) (l .inv .2) (g .before .loop-test .taken) (g .answer-at .ensures) (t .if3 .left) (p .put-record .ensures), refl, l .inv .2, l .inv .3)
 
 worked-to-requires-4 : tie.Need-worked-to-requires-4 Inv-loop μ-loop
 worked-to-requires-4 c κs = search needs
@@ -115,9 +111,8 @@ recount-spec =
     worked-to-requires-2
     returns-2
     loop-holds
-    mul-readings-at
-    readings-at-requires
-    answer-requires
+    mul-answer-at
+    answer-at-requires
     worked-to-requires-3
     same-length
     returns-3

@@ -1,9 +1,11 @@
--- `replies::readings_at` meets its contract: four counts, one behind the other.
+-- `replies::answer_at` meets its contract: four counts, one behind the other, are the reading that the session is given.
+use mathlib.Core.Path.{ap, _∙_}
 use denote.Ref.{now}
+use Rattle.card.specs.Lent.{readingOf}
 use Rattle.replies.proofs.Laws.{counts-here}
 use borrow.Author.Needs.{needs}
-use Rattle.replies.proofs.readings_at.Statement.{statement}
-use Rattle.replies.proofs.readings_at.Tie as tie
+use Rattle.replies.proofs.answer_at.Statement.{statement}
+use Rattle.replies.proofs.answer_at.Tie as tie
 
 read-little-requires : tie.Need-read-little-requires
 read-little-requires c κs = search needs
@@ -26,12 +28,16 @@ add-read-little-3 c = search needs
 read-little-requires-4 : tie.Need-read-little-requires-4
 read-little-requires-4 c κs = search needs
 
-returns : tie.Need-returns
-returns c = let a = c .before .before .before .before .before .args in
-    counts-here (now (a .from)) (a .at) (c .before .before .before .read-little .ensures .is) (c .before .before .read-little2 .ensures .is) (c .before .read-little3 .ensures .is) (c .read-little4 .ensures .is)
+answer-requires : tie.Need-answer-requires
+answer-requires c κs = search needs
 
-pub readings-at-spec : {M : Type 1} → statement M
-readings-at-spec =
+returns : tie.Need-returns
+returns c = let a = c .before .before .before .before .before .before .args in
+    c .answer .ensures
+    ∙ ap (readingOf (a .s)) (counts-here (now (a .from)) (a .at) (c .before .before .before .before .read-little .ensures .is) (c .before .before .before .read-little2 .ensures .is) (c .before .before .read-little3 .ensures .is) (c .before .read-little4 .ensures .is))
+
+pub answer-at-spec : {M : Type 1} → statement M
+answer-at-spec =
     tie.close
     (tie.spec
     read-little-requires
@@ -41,4 +47,5 @@ readings-at-spec =
     read-little-requires-3
     add-read-little-3
     read-little-requires-4
+    answer-requires
     returns)

@@ -31,8 +31,8 @@ use Rattle.account.specs.Account.{Truth, GoesOn, Sound, newest, total}
 use Rattle.account.specs.Demand3.{leaves, Counts, truthOf, shown, Steady}
 use Rattle.account.proofs.Meets.{meets}
 use Rattle.account.proofs.Both.{ours}
-use Rattle.replies.specs.Replies.{replies, lineOf, Worked, stopped, behind, worked}
-use Rattle.replies.proofs.Laws.{worked-none, worked-taken, worked-refused}
+use Rattle.rawreplies.specs.Replies.{replies, lineOf, Worked, stopped, behind, worked}
+use Rattle.rawreplies.proofs.Laws.{worked-none, worked-taken, worked-refused}
 use Rattle.month.specs.Month.{accountLine, accountLines, recordsOf, textsOf, rawReplies, recounted, quay, quaySheet, Months}
 use Rattle.month.proofs.Raw.{raw-back, shown-small}
 

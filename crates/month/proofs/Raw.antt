@@ -14,7 +14,7 @@ use Rattle.session.specs.declared.Readings.{Readings}
 use Rattle.session.specs.Session.{Side, near, far, sentOf, receivedOf}
 use Rattle.sheettext.specs.Sheet.{joined}
 use Rattle.account.specs.Demand3.{Counts, shown, Small}
-use Rattle.replies.specs.Replies.{readingsIn, repliesIn, replies}
+use Rattle.rawreplies.specs.Replies.{readingsIn, repliesIn, replies}
 use Rattle.month.specs.Month.{rawReply, rawReplies}
 
 module _ (r : Readings) (rest : List ℕ) where

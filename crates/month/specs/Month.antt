@@ -13,7 +13,7 @@ use Rattle.lossrecord.specs.Line.{lineRecord}
 use Rattle.sheettext.specs.Sheet.{headerText, lineText, sheetOf, joined}
 use Rattle.account.specs.Account.{total}
 use Rattle.account.specs.Demand3.{leaves, Counts, truthOf, shown, Steady, Small}
-use Rattle.replies.specs.Replies.{replies, Worked, stopped, worked}
+use Rattle.rawreplies.specs.Replies.{replies, Worked, stopped, worked}
 
 -- ── the account's sheet ──
 

@@ -2,7 +2,7 @@
 -- reads off the source's own clauses. Assumes nothing.
 use mathlib.Core.Path.{_≡_, sym, ap, _∙_}
 use denote.Ref.{now}
-use Rattle.replies.specs.Recount.{RecountEnd}
+use Rattle.rawreplies.specs.Recount.{RecountEnd}
 use Rattle.replies.proofs.recount.Reads as recount
 
 pub recount-one : (κs : _) (a : _) (r r′ : _) (s s′ : _) → recount.Post κs a r s → recount.Post κs a r′ s′ → (r ≡ r′) × (now (s .0) ≡ now (s′ .0))

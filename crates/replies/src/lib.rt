@@ -6,8 +6,8 @@ ghost use lib.ListN.{length, drop};
 ghost use Rattle.whole.specs.Lists.{laid};
 ghost use Rattle.card.specs.Lent.{readingOf};
 ghost use Rattle.lossrecord.specs.Line.{KeepsRules, lineRecord};
-ghost use Rattle.replies.specs.Replies.{readingsIn, lineOf};
-ghost use Rattle.replies.specs.Recount.{ended, answered, recountInto};
+ghost use Rattle.rawreplies.specs.Replies.{readingsIn, lineOf};
+ghost use Rattle.rawreplies.specs.Recount.{ended, answered, recountInto};
 use card::Answered;
 use card::answer;
 use lossrecord::LINE;
@@ -15,21 +15,12 @@ use lossrecord::LossLine;
 use lossrecord::write_line;
 use octets::numbers::read_little;
 use octets::parts::copy_octets;
+use rawreplies::Recounted;
 use session::LossSession;
 use session::well_formed;
 
 // The octets of a reply: four counts of 32 bits.
 pub const REPLY: usize = 16;
-
-// How far the replies were worked through.
-pub struct Recounted {
-    // 2 where the session is not well formed; 3 where the buffer has no room for a record of each reply, and nothing was read; 5 where the session
-    // refused the next reply; else 0.
-    pub refusal: u32,
-    // The replies taken, and so the records written.
-    pub taken: usize,
-    pub session: LossSession,
-}
 
 // The session's answer to the reply at a place: TxFCf, RxFCf, TxFCb and our own received count.
 fn answer_at(from: &[u8], at: usize, s: LossSession) -> Answered

@@ -2,7 +2,7 @@
 use mathlib.Core.Path.{ap, _∙_}
 use denote.Ref.{now}
 use Rattle.card.specs.Lent.{readingOf}
-use Rattle.replies.proofs.Laws.{counts-here}
+use Rattle.rawreplies.proofs.Laws.{counts-here}
 use borrow.Author.Needs.{needs}
 use Rattle.replies.proofs.answer_at.Statement.{statement}
 use Rattle.replies.proofs.answer_at.Tie as tie

@@ -7,8 +7,8 @@ use lib.ListN.{replicate}
 use Rattle.whole.proofs.Stored.{back}
 use Rattle.lossrecord.proofs.Laws.{near-fits, far-fits}
 use Rattle.whole.specs.Lists.{laid}
-use Rattle.replies.specs.Replies.{lineOf}
-use Rattle.replies.proofs.Laws.{record-is}
+use Rattle.rawreplies.specs.Replies.{lineOf}
+use Rattle.rawreplies.proofs.Laws.{record-is}
 use borrow.Author.Needs.{needs}
 use Rattle.replies.proofs.put_record.Statement.{statement}
 use Rattle.replies.proofs.put_record.Tie as tie

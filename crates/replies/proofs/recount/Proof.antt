@@ -9,9 +9,9 @@ use lib.ListN.{length}
 use borrow.Author.Tests.{not-true, not-false}
 use borrow.Author.Needs.{needs}
 use Rattle.session.specs.Session.{wellFormed}
-use Rattle.replies.specs.declared.Recounted.{Recounted}
-use Rattle.replies.specs.Recount.{ended}
-use Rattle.replies.proofs.Turns.{ends-not-well, ends-no-room, SoFar, at-start, at-end, turn-stops, turn-kept, turn-room, turn-goes}
+use Rattle.rawreplies.specs.declared.Recounted.{Recounted}
+use Rattle.rawreplies.specs.Recount.{ended}
+use Rattle.rawreplies.proofs.Turns.{ends-not-well, ends-no-room, SoFar, at-start, at-end, turn-stops, turn-kept, turn-room, turn-goes}
 use Rattle.replies.proofs.recount.Statement.{statement}
 use Rattle.replies.proofs.recount.Tie as tie
 

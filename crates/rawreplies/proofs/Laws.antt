@@ -30,7 +30,7 @@ use Rattle.lossrecord.specs.Line.{KeepsRules, lineRecord}
 use Rattle.lossrecord.specs.Calls.{writeLine}
 use Rattle.lossrecord.proofs.Laws.{line-long}
 use Rattle.lossrecord.proofs.Calls.{loss-records}
-use Rattle.replies.specs.Replies.{countAt, readingsIn, repliesIn, lineOf, Worked, stopped, behind, worked}
+use Rattle.rawreplies.specs.Replies.{countAt, readingsIn, repliesIn, lineOf, Worked, stopped, behind, worked}
 
 -- ── a reply in octets ──
 

@@ -20,9 +20,9 @@ use Rattle.card.specs.declared.Answered.{Answered}
 use Rattle.card.specs.Lent.{readingOf}
 use Rattle.lossrecord.specs.Line.{KeepsRules, lineRecord}
 use Rattle.lossrecord.proofs.Laws.{line-long}
-use Rattle.replies.specs.Replies.{readingsIn, repliesIn, replies, lineOf, Worked, stopped, behind, worked}
-use Rattle.replies.specs.Recount.{ended, answered, workedAnswer, recountInto}
-use Rattle.replies.proofs.Laws.{replies-next, taken-kept, worked-taken, worked-refused, worked-none, behind-both}
+use Rattle.rawreplies.specs.Replies.{readingsIn, repliesIn, replies, lineOf, Worked, stopped, behind, worked}
+use Rattle.rawreplies.specs.Recount.{ended, answered, workedAnswer, recountInto}
+use Rattle.rawreplies.proofs.Laws.{replies-next, taken-kept, worked-taken, worked-refused, worked-none, behind-both}
 
 -- ── how it ends ──
 

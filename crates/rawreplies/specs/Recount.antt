@@ -10,8 +10,8 @@ use Rattle.whole.specs.Tests.{choose}
 use Rattle.whole.specs.Lists.{laid}
 use Rattle.session.specs.declared.LossSession.{LossSession}
 use Rattle.session.specs.Session.{WellFormed, wellFormed}
-use Rattle.replies.specs.declared.Recounted.{Recounted}
-use Rattle.replies.specs.Replies.{replies, Worked, behind, worked}
+use Rattle.rawreplies.specs.declared.Recounted.{Recounted}
+use Rattle.rawreplies.specs.Replies.{replies, Worked, behind, worked}
 
 -- what is answered, and what the buffer then holds
 pub record RecountEnd : Type 0 where

@@ -20,11 +20,11 @@ use Rattle.loss.specs.Told.{numbersOf}
 use Rattle.loss.proofs.Laws.{sessions}
 use Rattle.lossrecord.specs.Line.{lineRecord}
 use Rattle.lossrecord.proofs.Laws.{line-long}
-use Rattle.replies.specs.declared.Recounted.{Recounted}
-use Rattle.replies.specs.Replies.{repliesIn, replies, lineOf, Worked, stopped, behind, worked}
-use Rattle.replies.specs.Recount.{RecountEnd, ended, answered, workedAnswer, recountInto, andThen, Recounts}
-use Rattle.replies.proofs.Laws.{replies-front, replies-both, worked-taken, worked-refused, worked-none, behind-both}
-use Rattle.replies.proofs.Turns.{from-here, ends-not-well, ends-no-room, ends-worked}
+use Rattle.rawreplies.specs.declared.Recounted.{Recounted}
+use Rattle.rawreplies.specs.Replies.{repliesIn, replies, lineOf, Worked, stopped, behind, worked}
+use Rattle.rawreplies.specs.Recount.{RecountEnd, ended, answered, workedAnswer, recountInto, andThen, Recounts}
+use Rattle.rawreplies.proofs.Laws.{replies-front, replies-both, worked-taken, worked-refused, worked-none, behind-both}
+use Rattle.rawreplies.proofs.Turns.{from-here, ends-not-well, ends-no-room, ends-worked}
 
 -- taken, or refused
 decided : (s : LossSession) (r : Readings) → (numbersOf s r .refusal ≡ 0) ⊎ (numbersOf s r .refusal ≡ 0 → ⊥)

@@ -9,8 +9,8 @@ use calls::MOST;
 use card::answer;
 use octets::numbers::read_little;
 use octets::parts::copy_octets;
-use sessionoctets::SESSION;
-use sessionoctets::session_in;
+use sessionin::session_in;
+use sessionlayout::SESSION;
 use sessionoctets::session_octets;
 use spelling::write_word;
 

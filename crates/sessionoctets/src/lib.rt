@@ -1,35 +1,10 @@
-// A loss session in 37 octets, as recorded runs hold it: kept 1, the four readings of 4, near 8, far 8, intervals 4.
+// The 37 octets of a loss session, written.
 ghost use mathlib.Core.Path.{_≡_};
-ghost use Rattle.sessionoctets.specs.Session.{sessionAt, sessionOctets};
-use octets::numbers::read_little;
-use octets::numbers::read_little_signed;
+ghost use Rattle.sessionlayout.specs.Session.{sessionOctets};
 use octets::numbers::write_little;
 use octets::numbers::write_little_signed;
 use session::LossSession;
-use session::Readings;
-
-// The octets of a session.
-pub const SESSION: usize = 37;
-
-// The session in these octets, taken as it stands: nothing is tested.
-pub fn session_in(from: &[u8; SESSION]) -> LossSession
-    ensures { λ r. ⌜ r ≡ sessionAt (now (from .entry)) ⌝ }
-{
-    // a view of an array costs once what the array costs at each call
-    let all: &[u8] = from;
-    LossSession {
-        kept: read_little(all, 0, 1),
-        intervals: read_little(all, 33, 4),
-        last: Readings {
-            txf: read_little(all, 1, 4),
-            rxf: read_little(all, 5, 4),
-            txb: read_little(all, 9, 4),
-            ours: read_little(all, 13, 4),
-        },
-        near: read_little_signed(all, 17),
-        far: read_little_signed(all, 25),
-    }
-}
+use sessionlayout::SESSION;
 
 // The octets of a session: nothing is tested, and of `kept` what does not fit in its octet is left out.
 pub fn session_octets(s: LossSession) -> [u8; SESSION]

@@ -17,8 +17,8 @@ use Rattle.state.specs.State.{State}
 use Rattle.settingsbody.specs.Body.{settingsBody, settingsIn, Shaped}
 use Rattle.settingsbody.proofs.Bodies.{long, again, shaped}
 use Rattle.settingsbody.proofs.Lying.{lying}
-use Rattle.sessionoctets.specs.Session.{field, fieldAt, sessionOctets, sessionAt}
-use Rattle.sessionoctets.proofs.Session as session
+use Rattle.sessionlayout.specs.Session.{field, fieldAt, sessionOctets, sessionAt}
+use Rattle.sessionlayout.proofs.Session as session
 use Rattle.statelayout.specs.Words.{wordsOctets, wordsIn}
 use Rattle.statelayout.specs.State.{runningOctets, stateOctets, stateAt, arraysOf, shown, StatesInOctets}
 use Rattle.statelayout.proofs.Words.{words-long, words-again}

@@ -12,7 +12,7 @@ use Rattle.whole.proofs.Lists.{part-none, part-append, part-drop, laid-none, la
 use Rattle.whole.proofs.Apart.{laid-whole}
 use Rattle.octets.specs.Numbers.{littleEndian, Octets}
 use Rattle.octets.proofs.Laws.{length-octets, number-here, read-again}
-use Rattle.sessionoctets.specs.Session.{field, fieldAt}
+use Rattle.sessionlayout.specs.Session.{field, fieldAt}
 use Rattle.statelayout.specs.Words.{wordsOctets, wordsIn, WordsInOctets}
 
 module _ (n : ℕ) where

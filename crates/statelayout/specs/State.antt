@@ -12,7 +12,7 @@ use Rattle.settings.specs.Settings.{slots}
 use Rattle.state.specs.State.{State, viewOf}
 use Rattle.settingsbody.specs.Body.{settingsBody, settingsIn, Shaped}
 use Rattle.settingsbody.specs.Lying.{setOf, namesOf}
-use Rattle.sessionoctets.specs.Session.{fieldAt, sessionOctets, sessionAt}
+use Rattle.sessionlayout.specs.Session.{fieldAt, sessionOctets, sessionAt}
 use Rattle.statelayout.specs.declared.StateArrays.{StateArrays}
 use Rattle.statelayout.specs.Words.{wordsOctets, wordsIn}
 

@@ -5,7 +5,7 @@ use mathlib.Core.List.{List, [], _∷_, _++_}
 use lib.ListN.{length, getD, drop}
 use Rattle.whole.specs.Lists.{part}
 use Rattle.octets.specs.Numbers.{Octets}
-use Rattle.sessionoctets.specs.Session.{field, fieldAt}
+use Rattle.sessionlayout.specs.Session.{field, fieldAt}
 
 -- each word in n octets
 unfoldable pub wordsOctets : ℕ → List ℕ → List ℕ

@@ -3,7 +3,7 @@ use mathlib.Core.Path.{_≡_, refl}
 use mir.Syntax.{w64}
 use mir.Val.{toZ, ofZ}
 use lib.ListN.{replicate}
-use Rattle.sessionoctets.proofs.Session.{session-laid}
+use Rattle.sessionlayout.proofs.Session.{session-laid}
 use borrow.Author.Needs.{needs}
 use Rattle.sessionoctets.proofs.session_octets.Statement.{statement}
 use Rattle.sessionoctets.proofs.session_octets.Tie as tie

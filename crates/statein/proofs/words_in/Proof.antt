@@ -9,7 +9,7 @@ use denote.Ref.{now}
 use lib.ListN.{set, drop, replicate}
 use Rattle.whole.specs.Lists.{laid}
 use Rattle.settings.specs.Settings.{slots}
-use Rattle.sessionoctets.specs.Session.{fieldAt}
+use Rattle.sessionlayout.specs.Session.{fieldAt}
 use Rattle.statelayout.specs.Words.{wordsIn}
 use Rattle.statelayout.proofs.Words.{next-place, place-fits, read-start, read-turn, read-all}
 use borrow.Author.Needs.{needs}

@@ -9,7 +9,7 @@ use Rattle.settings.specs.Settings.{slots, settingsOf}
 use Rattle.state.specs.State.{lying}
 use Rattle.settingsbody.specs.Body.{Shaped}
 use Rattle.settingsbody.proofs.Lying.{lying-shaped}
-use Rattle.sessionoctets.specs.Session.{sessionOctets}
+use Rattle.sessionlayout.specs.Session.{sessionOctets}
 use Rattle.statelayout.proofs.State.{state-laid}
 use borrow.Author.Needs.{needs}
 use Rattle.stateoctets.proofs.state_octets.Statement.{statement}

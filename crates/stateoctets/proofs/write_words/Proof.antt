@@ -9,7 +9,7 @@ use denote.Ref.{now}
 use lib.ListN.{length, getD, take}
 use lib.Seq.{take-all}
 use Rattle.whole.specs.Lists.{laid}
-use Rattle.sessionoctets.specs.Session.{field}
+use Rattle.sessionlayout.specs.Session.{field}
 use Rattle.statelayout.specs.Words.{wordsOctets}
 use Rattle.statelayout.proofs.Words.{next-place, place-fits, write-start, write-turn}
 use borrow.Author.Needs.{needs}

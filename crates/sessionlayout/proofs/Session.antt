@@ -14,7 +14,7 @@ use Rattle.whole.proofs.Pieces.{first, more}
 use Rattle.octets.specs.Numbers.{littleEndian, number, inOctets, Octets}
 use Rattle.octets.proofs.Laws.{length-octets, number-here, read-again, signed-octets, signed-again}
 use Rattle.session.specs.declared.LossSession.{LossSession}
-use Rattle.sessionoctets.specs.Session.{field, fieldAt, signed, signedAt, sessionOctets, sessionAt, FieldsHold, SessionsInOctets}
+use Rattle.sessionlayout.specs.Session.{field, fieldAt, signed, signedAt, sessionOctets, sessionAt, FieldsHold, SessionsInOctets}
 
 pub session-long : (s : LossSession) → length (sessionOctets s) ≡ 37
 unfolding sessionOctets

@@ -1,10 +1,10 @@
--- `sessionoctets::session_in` meets its contract: each number from its field.
+-- `sessionin::session_in` meets its contract: each number from its field.
 use mathlib.Core.Path.{_≡_}
 use mir.Syntax.{w64}
 use mir.Val.{toZ, ofZ}
 use borrow.Author.Needs.{needs}
-use Rattle.sessionoctets.proofs.session_in.Statement.{statement}
-use Rattle.sessionoctets.proofs.session_in.Tie as tie
+use Rattle.sessionin.proofs.session_in.Statement.{statement}
+use Rattle.sessionin.proofs.session_in.Tie as tie
 
 read-little-requires : tie.Need-read-little-requires
 read-little-requires c κs = search needs

@@ -9,10 +9,10 @@ ghost use Rattle.lossrecord.specs.Calls.{readLine};
 ghost use Rattle.sheettext.specs.Sheet.{lineText, refusedText, answerText, isLine};
 ghost use Rattle.lines.specs.Chunk.{ended, writeLines};
 use digits::write_decimal;
+use lossline::read_line;
 use lossrecord::LINE;
 use lossrecord::LineAnswer;
 use lossrecord::LossLine;
-use lossrecord::read_line;
 use octets::parts::copy_octets;
 
 // No line is longer: three numbers of at most 20 octets, each with one octet behind it.

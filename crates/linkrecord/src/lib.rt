@@ -38,7 +38,7 @@ pub extern "C" fn linkbox_write_settings(
 pub extern "C" fn linkbox_read_line(from: &[u8]) -> LineTold
     ensures { λ r. ⌜ r ≡ readNumbers (now (from .entry)) ⌝ }
 {
-    let answer = lossrecord::read_line(from);
+    let answer = lossline::read_line(from);
     lossrecord::tell(answer)
 }
 
@@ -47,6 +47,6 @@ pub extern "C" fn linkbox_read_line(from: &[u8]) -> LineTold
 pub extern "C" fn linkbox_write_line(into: &mut [u8], line: LossLine) -> RecordTold
     ensures { λ r. ⌜ (r ≡ lineNumbers line (now (into .entry))) × (now (into .exit) ≡ writeLine line (now (into .entry)) .buffer) ⌝ }
 {
-    let answer = lossrecord::write_line(into, line);
+    let answer = lossline::write_line(into, line);
     record::tell(answer)
 }

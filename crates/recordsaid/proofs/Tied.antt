@@ -13,8 +13,8 @@ use Rattle.settingsrecord.specs.SettingsRecord.{settingsRead}
 use Rattle.settingsrecord.proofs.read_settings.Reads as read-settings
 use Rattle.settingsrecord.proofs.write_settings.Reads as write-settings
 use Rattle.lossrecord.specs.declared.LineAnswer.{LineAnswer}
-use Rattle.lossrecord.proofs.read_line.Reads as read-line
-use Rattle.lossrecord.proofs.write_line.Reads as write-line
+use Rattle.lossline.proofs.read_line.Reads as read-line
+use Rattle.lossline.proofs.write_line.Reads as write-line
 use Rattle.recordsaid.specs.Records as call
 use Rattle.recordsaid.specs.Records.{refused, settings, RecordLeft, leaving, RecordSaid, writeTells, lineTells}
 use Rattle.recordsaid.proofs.Records.{records-follow}

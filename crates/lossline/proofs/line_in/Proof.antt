@@ -1,11 +1,11 @@
--- `lossrecord::line_in` meets its contract: three fields behind the head.
+-- `lossline::line_in` meets its contract: three fields behind the head.
 use mathlib.Core.Path.{_≡_}
 use mir.Syntax.{w64}
 use mir.Val.{toZ, ofZ}
 use Rattle.lossrecord.specs.Line.{lineIn}
 use borrow.Author.Needs.{needs}
-use Rattle.lossrecord.proofs.line_in.Statement.{statement}
-use Rattle.lossrecord.proofs.line_in.Tie as tie
+use Rattle.lossline.proofs.line_in.Statement.{statement}
+use Rattle.lossline.proofs.line_in.Tie as tie
 
 read-little-signed-requires : tie.Need-read-little-signed-requires
 read-little-signed-requires c κs = search needs

@@ -1,4 +1,4 @@
--- `lossrecord::write_line` meets its contract: three fields, each laid behind the one before it, are the body; it and whether the line keeps the rules
+-- `lossline::write_line` meets its contract: three fields, each laid behind the one before it, are the body; it and whether the line keeps the rules
 -- are handed to the writer of records.
 use denote.Ref.{now}
 use mathlib.Core.Path.{_≡_, refl, ap₂, _∙_}
@@ -9,12 +9,12 @@ use mir.Syntax.{w64}
 use mir.Val.{toZ, ofZ}
 use lib.ListN.{replicate}
 use Rattle.record.specs.Writing.{writeRecord, numbersOf}
 use Rattle.lossrecord.specs.Line.{lineBody}
 use Rattle.lossrecord.specs.Calls.{writeLine}
 use Rattle.lossrecord.proofs.Laws.{body-laid}
 use borrow.Author.Needs.{needs}
-use Rattle.lossrecord.proofs.write_line.Statement.{statement}
-use Rattle.lossrecord.proofs.write_line.Tie as tie
+use Rattle.lossline.proofs.write_line.Statement.{statement}
+use Rattle.lossline.proofs.write_line.Tie as tie
 
 slice-aggregate-write-little-signed : tie.Need-slice-aggregate-write-little-signed
 slice-aggregate-write-little-signed c = search needs

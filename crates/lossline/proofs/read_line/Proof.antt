@@ -1,9 +1,9 @@
--- `lossrecord::read_line` meets its contract: one law for each way that it ends.
+-- `lossline::read_line` meets its contract: one law for each way that it ends.
 use denote.Ref.{now}
 use Rattle.lossrecord.proofs.Calls.{ends-head, long-enough, ends-rule, ends-line}
 use borrow.Author.Needs.{needs}
-use Rattle.lossrecord.proofs.read_line.Statement.{statement}
-use Rattle.lossrecord.proofs.read_line.Tie as tie
+use Rattle.lossline.proofs.read_line.Statement.{statement}
+use Rattle.lossline.proofs.read_line.Tie as tie
 
 is-record-requires : tie.Need-is-record-requires
 is-record-requires c κs = search needs

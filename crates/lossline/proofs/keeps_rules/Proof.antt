@@ -1,10 +1,10 @@
--- `lossrecord::keeps_rules` meets its contract: the rules of the session that it makes.
+-- `lossline::keeps_rules` meets its contract: the rules of the session that it makes.
 use mathlib.Core.Path.{_≡_}
 use mir.Syntax.{w64}
 use mir.Val.{toZ, ofZ}
 use borrow.Author.Needs.{needs}
-use Rattle.lossrecord.proofs.keeps_rules.Statement.{statement}
-use Rattle.lossrecord.proofs.keeps_rules.Tie as tie
+use Rattle.lossline.proofs.keeps_rules.Statement.{statement}
+use Rattle.lossline.proofs.keeps_rules.Tie as tie
 
 well-formed-requires : tie.Need-well-formed-requires
 well-formed-requires c κs = search needs

@@ -2,7 +2,7 @@
 ghost use mathlib.Core.Path.{_≡_};
 ghost use Rattle.whole.specs.Lists.{every};
 ghost use Rattle.peerids.specs.Ids.{idGood, peersGood};
-use words::all_distinct;
+use distinct::all_distinct;
 use words::all_within;
 
 // Whether a word may be a peer's MEP ID, beside our own.

@@ -4,6 +4,7 @@ ghost use lib.ListN.{take};
 ghost use Rattle.state.specs.State.{lying};
 ghost use Rattle.standing.specs.Standing.{standing};
 ghost use Rattle.standing.specs.Flag.{flag};
+use distinct::is_absent;
 use settings::COUNT;
 use settings::PEERS;
 use state::AIS;
@@ -12,7 +13,6 @@ use state::MISMERGE;
 use state::UNEXPECTED_LEVEL;
 use state::UNEXPECTED_MEP;
 use state::UNEXPECTED_PERIOD;
-use words::is_absent;
 
 // The used slots; all of them where there are fewer.
 fn front(slots: &[u32], count: u32) -> &[u32]

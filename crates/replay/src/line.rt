@@ -1,7 +1,7 @@
 // The parts that lines share. Each is put behind what stands already, and answers the place behind itself.
 use calls::MOST;
 use digits::write_decimal;
-use spelling::write_hex;
+use hex::write_hex;
 use spelling::write_word;
 
 // A space, and a number behind it.

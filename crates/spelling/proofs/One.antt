@@ -3,12 +3,7 @@
 use mathlib.Core.Path.{_≡_, sym, _∙_}
 use denote.Ref.{now}
 use Rattle.spelling.proofs.write_word.Reads as write-word
-use Rattle.spelling.proofs.write_hex.Reads as write-hex
 
 pub write-word-one : (κs : _) (a : _) (r r′ : _) (s s′ : _) → write-word.Post κs a r s → write-word.Post κs a r′ s′
     → (r ≡ r′) × (now (s .0) ≡ now (s′ .0))
 write-word-one κs a r r′ s s′ p q = (p .1 ∙ sym (q .1), p .0 ∙ sym (q .0))
-
-pub write-hex-one : (κs : _) (a : _) (r r′ : _) (s s′ : _) → write-hex.Post κs a r s → write-hex.Post κs a r′ s′
-    → (r ≡ r′) × (now (s .0) ≡ now (s′ .0))
-write-hex-one κs a r r′ s s′ p q = (p .1 ∙ sym (q .1), p .0 ∙ sym (q .0))

@@ -1,10 +1,10 @@
--- `spelling::hex_digit` meets its contract, by its test.
+-- `hex::hex_digit` meets its contract, by its test.
 use mathlib.Core.Path.{sym}
 use native.Mathlib.Omega.{arith}
-use Rattle.spelling.proofs.Hex.{digit-below, digit-above}
+use Rattle.hex.proofs.Hex.{digit-below, digit-above}
 use borrow.Author.Needs.{needs}
-use Rattle.spelling.proofs.hex_digit.Statement.{statement}
-use Rattle.spelling.proofs.hex_digit.Tie as tie
+use Rattle.hex.proofs.hex_digit.Statement.{statement}
+use Rattle.hex.proofs.hex_digit.Tie as tie
 
 add-result : tie.Need-add-result
 add-result c = search needs

@@ -1,13 +1,13 @@
--- `spelling::write_hex` meets its contract: no octets are a word, others are written where all their digits fit.
+-- `hex::write_hex` meets its contract: no octets are a word, others are written where all their digits fit.
 use mathlib.Core.Path.{sym}
 use native.Mathlib.Omega.{arith}
 use denote.Ref.{now}
 use Rattle.decimal.proofs.Put.{put-all, put-nothing}
-use Rattle.spelling.specs.Hex.{hexText}
-use Rattle.spelling.proofs.Hex.{text-none, text-some, text-long}
+use Rattle.hex.specs.Hex.{hexText}
+use Rattle.hex.proofs.Hex.{text-none, text-some, text-long}
 use borrow.Author.Needs.{needs}
-use Rattle.spelling.proofs.write_hex.Statement.{statement}
-use Rattle.spelling.proofs.write_hex.Tie as tie
+use Rattle.hex.proofs.write_hex.Statement.{statement}
+use Rattle.hex.proofs.write_hex.Tie as tie
 
 slice-aggregate-write-word : tie.Need-slice-aggregate-write-word
 slice-aggregate-write-word c = search needs

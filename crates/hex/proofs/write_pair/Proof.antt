@@ -1,11 +1,11 @@
--- `spelling::write_pair` meets its contract: two digits, one behind the other.
+-- `hex::write_pair` meets its contract: two digits, one behind the other.
 use native.Mathlib.Omega.{arith}
 use denote.Ref.{now}
 use lib.ListN.{length-set}
-use Rattle.spelling.proofs.Hex.{pair-laid}
+use Rattle.hex.proofs.Hex.{pair-laid}
 use borrow.Author.Needs.{needs}
-use Rattle.spelling.proofs.write_pair.Statement.{statement}
-use Rattle.spelling.proofs.write_pair.Tie as tie
+use Rattle.hex.proofs.write_pair.Statement.{statement}
+use Rattle.hex.proofs.write_pair.Tie as tie
 
 hex-digit-requires : tie.Need-hex-digit-requires
 hex-digit-requires c κs = search needs

@@ -1,4 +1,4 @@
--- `spelling::write_pairs` meets its contract. The invariant: the digits of the first i octets are laid. The measure is how many octets are left.
+-- `hex::write_pairs` meets its contract. The invariant: the digits of the first i octets are laid. The measure is how many octets are left.
 use Prim.Native.Nat.{ℕ, _+_, _*_, _-_, _≤_}
 use mathlib.Core.Path.{_≡_, refl, ap, _∙_}
 use mathlib.Core.List.{List}
@@ -8,10 +8,10 @@ use lib.ListN.{length, getD, take}
 use lib.Seq.{take-all}
 use borrow.Author.Needs.{needs}
 use Rattle.whole.specs.Lists.{laid}
-use Rattle.spelling.specs.Hex.{hexPair, hexPairs}
-use Rattle.spelling.proofs.Hex.{pairs-start, pairs-turn}
-use Rattle.spelling.proofs.write_pairs.Statement.{statement}
-use Rattle.spelling.proofs.write_pairs.Tie as tie
+use Rattle.hex.specs.Hex.{hexPair, hexPairs}
+use Rattle.hex.proofs.Hex.{pairs-start, pairs-turn}
+use Rattle.hex.proofs.write_pairs.Statement.{statement}
+use Rattle.hex.proofs.write_pairs.Tie as tie
 
 abbrev Inv-loop : tie.InvT-loop
 Inv-loop into₀ at octets i₀ into i = (i ≤ length octets) × (length into ≡ length into₀) × (into ≡ laid at (hexPairs (take i octets)) into₀)

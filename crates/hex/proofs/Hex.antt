@@ -13,7 +13,7 @@ use Rattle.whole.specs.Lists.{laid}
 use Rattle.whole.proofs.Lists.{laid-none, laid-one, laid-more, laid-next}
 use Rattle.whole.proofs.Tests.{known}
 use Rattle.octets.specs.Numbers.{Octets}
-use Rattle.spelling.specs.Hex.{hexDigit, hexPair, hexPairs, hexText, digitValue, pairsValue, Hexes}
+use Rattle.hex.specs.Hex.{hexDigit, hexPair, hexPairs, hexText, digitValue, pairsValue, Hexes}
 
 -- ── how long ──
 

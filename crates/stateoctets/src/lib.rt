@@ -4,6 +4,7 @@ ghost use mathlib.Core.List.{[], _∷_};
 ghost use Prim.Native.Nat.{_+_, _*_, _≤_};
 ghost use lib.ListN.{length, getD};
 ghost use Rattle.whole.specs.Lists.{laid};
+ghost use Rattle.settings.specs.Settings.{slots};
 ghost use Rattle.state.specs.State.{lying};
 ghost use Rattle.statelayout.specs.Words.{wordsOctets};
 ghost use Rattle.statelayout.specs.State.{stateOctets, runningOctets};
@@ -39,8 +40,8 @@ fn write_words(into: &mut [u8], at: usize, n: usize, words: &[u32])
 }
 
 // Writes what stands between the settings and the session: the counts, the words of the slots, the timers of the conditions.
-fn write_running(into: &mut [u8], timers: &[u32; PEERS], rdi: &[u32; PEERS], run: &[u32; 15])
-    requires { ⌜ 157 ≤ length (now into) ⌝ }
+fn write_running(into: &mut [u8], timers: &[u32], rdi: &[u32], run: &[u32; 15])
+    requires { ⌜ (157 ≤ length (now into)) × (length (now timers) ≡ slots) × (length (now rdi) ≡ slots) ⌝ }
     ensures { λ _. ⌜ now (into .exit) ≡ laid 81 (runningOctets (getD (now (run .entry)) 7 0 ∷ getD (now (run .entry)) 8 0 ∷ []) (now (timers .entry)) (now (rdi .entry)) (getD (now (run .entry)) 0 0 ∷ getD (now (run .entry)) 2 0 ∷ getD (now (run .entry)) 3 0 ∷ getD (now (run .entry)) 1 0 ∷ getD (now (run .entry)) 4 0 ∷ getD (now (run .entry)) 5 0 ∷ getD (now (run .entry)) 6 0 ∷ [])) (now (into .entry)) ⌝ }
 {
     let counts = [run[SENT], run[RECEIVED]];
@@ -74,13 +75,13 @@ pub fn state_octets(
     // a view of an array tells its length, and costs nothing
     let _names: &[u8] = names;
     let _slots: &[u32] = ids;
-    let _timers: &[u32] = timers;
-    let _rdi: &[u32] = rdi;
+    let slot_timers: &[u32] = timers;
+    let slot_rdi: &[u32] = rdi;
     let settings = body_of(set, names, ids);
     let session = session_octets(session_of(run, totals));
     let mut octets = [0u8; STATE];
     copy_octets(&mut octets, 0, &settings);
-    write_running(&mut octets, timers, rdi, run);
+    write_running(&mut octets, slot_timers, slot_rdi, run);
     copy_octets(&mut octets, 157, &session);
     octets
 }

@@ -57,8 +57,8 @@ returns c =
     let w = c .before .before .before .before .before .write-running in
     let names : length (now (a .names)) ≡ 60 = c .before .before .before .before .before .before .before .before .before .before .before .before .before .before .before .before .before .-names .given .0 in
     let ids : length (now (a .ids)) ≡ slots = c .before .before .before .before .before .before .before .before .before .before .before .before .before .before .before .before .-slots .given .0 in
-    let timers : length (now (a .timers)) ≡ slots = c .before .before .before .before .before .before .before .before .before .before .before .before .before .before .before .-timers .given .0 in
-    let rdi : length (now (a .rdi)) ≡ slots = c .before .before .before .before .before .before .before .before .before .before .before .before .before .before .-rdi .given .0 in
+    let timers : length (now (a .timers)) ≡ slots = c .before .before .before .before .before .before .before .before .before .before .before .before .before .before .before .slot-timers .given .0 in
+    let rdi : length (now (a .rdi)) ≡ slots = c .before .before .before .before .before .before .before .before .before .before .before .before .before .before .slot-rdi .given .0 in
     let shaped : Shaped slots (settingsOf (now (a .set)) (now (a .names)) (now (a .ids))) = rw ids at (lying-shaped (now (a .set)) (now (a .names)) (now (a .ids)) names) in
     state-laid (lying (a .set) (a .names) (a .ids) (a .timers) (a .rdi) (a .run) (a .totals)) (replicate 194 0) shaped timers rdi refl
     (c .before .before .before .before .before .before .before .before .copy-octets .ensures ∙ ap (λ (m : List ℕ). laid 0 m (replicate 194 0)) (b .ensures))

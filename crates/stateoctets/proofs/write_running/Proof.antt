@@ -57,13 +57,10 @@ same-length c = search needs
 
 returns : tie.Need-returns
 returns c =
-    let s = c .before .before .before .before .before .before .before .before .before .before .before .before .before .before .before .before .before .before .before .before .before .before .before .before .before .before .before .before .before .before .pre in
-    running-laid _ (now (c .before .before .before .before .before .before .before .before .before .before .before .before .before .before .before .before .before .before .before .before .before .before .before .before .before .before .before .before .before .before .args .timers)) (now (c .before .before .before .before .before .before .before .before .before .before .before .before .before .before .before .before .before .before .before .before .before .before .before .before .before .before .before .before .before .before .args .rdi)) _ (now (c .before .before .before .before .before .before .before .before .before .before .before .before .before .before .before .before .before .before .before .before .before .before .before .before .before .before .before .before .before .before .args .into)) refl
-    (c .before .before .before .before .before .before .before .before .before .before .before .before .before .write-words-arg3 .given .0)
-    (c .before .before .before .before .before .before .before .before .write-words-arg5 .given .0)
-    refl s
-    (c .before .before .before .before .before .before .before .before .before .before .before .before .before .before .before .before .before .write-words .ensures)
-    (c .before .before .before .before .before .before .before .before .before .before .before .before .write-words2 .ensures)
+    let s = c .before .before .before .before .before .before .before .before .before .before .before .before .before .before .before .before .before .before .before .before .before .before .before .before .before .before .before .before .before .before in
+    running-laid _ (now (s .args .timers)) (now (s .args .rdi)) _ (now (s .args .into)) refl (s .pre .1) (s .pre .2) refl (s .pre .0)
+    (c .before .before .before .before .before .before .before .before .before .before .before .before .before .before .before .write-words .ensures)
+    (c .before .before .before .before .before .before .before .before .before .before .before .write-words2 .ensures)
     (c .before .before .before .before .before .before .before .write-words3 .ensures)
     (c .before .before .write-words4 .ensures)
 

@@ -63,36 +63,19 @@ pub fn write_little(into: &mut [u8], at: usize, n: usize, value: u32)
     }
 }
 
-// The signed number whose two's complement is these bits. (A cast of bits above 2^63 is refused, so it counts down from -1.)
-fn signed_of(bits: u64) -> i64
-    ensures { λ r. ⌜ r ≡ toZ w64 bits ⌝ }
-{
-    if bits < 9223372036854775808 {
-        bits as i64
-    } else {
-        -1 - ((18446744073709551615 - bits) as i64)
-    }
-}
-
-// The two's complement of a signed number.
-fn bits_of(value: i64) -> u64
-    ensures { λ r. ⌜ r ≡ ofZ w64 value ⌝ }
-{
-    if value < 0 {
-        18446744073709551615 - ((-1 - value) as u64)
-    } else {
-        value as u64
-    }
-}
-
-// The signed number in the eight octets at a place, two's complement, the lowest first.
+// The signed number in the eight octets at a place, two's complement, the lowest first. (A cast of bits above 2^63 is refused, so it counts
+// down from -1.)
 pub fn read_little_signed(from: &[u8], at: usize) -> i64
     requires { ⌜ at + 8 ≤ length (now from) ⌝ }
     ensures { λ r. ⌜ r ≡ toZ w64 (number littleEndian (part at 8 (now (from .entry)))) ⌝ }
 {
     let low = read_little(from, at, 4) as u64;
     let high = read_little(from, at + 4, 4) as u64;
-    signed_of(low + high * 4294967296)
+    let bits = low + high * 4294967296;
+    if bits < 9223372036854775808 {
+        return bits as i64;
+    }
+    -1 - ((18446744073709551615 - bits) as i64)
 }
 
 // Writes a signed number into the eight octets at a place, two's complement, the lowest first.
@@ -100,7 +83,11 @@ pub fn write_little_signed(into: &mut [u8], at: usize, value: i64)
     requires { ⌜ at + 8 ≤ length (now into) ⌝ }
     ensures { λ _. ⌜ now (into .exit) ≡ laid at (inOctets littleEndian 8 (ofZ w64 value)) (now (into .entry)) ⌝ }
 {
-    let mut bits = bits_of(value);
+    let mut bits = if value < 0 {
+        18446744073709551615 - ((-1 - value) as u64)
+    } else {
+        value as u64
+    };
     let mut i: usize = 0;
     while i < 8 {
         into[at + i] = (bits & 255) as u8;

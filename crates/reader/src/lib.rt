@@ -2,9 +2,8 @@
 // state, and no function asks anything of its caller.
 ghost use mathlib.Core.Path.{_≡_};
 ghost use denote.Ref.{ptr};
-ghost use Rattle.tlvs.specs.Tlvs.{walkFrom};
 ghost use Rattle.reasons.specs.Told.{told};
-ghost use Rattle.reader.specs.Reader.{isCut, whole, seekOf, Within, valueOf, placeOf, answerOf};
+ghost use Rattle.reader.specs.Reader.{isCut, seekOf, Within, valueOf, placeOf, answerOf};
 ghost use Rattle.reader.specs.Numbers.{numbersOf};
 use frame::head::HEAD_LENGTH;
 use judge::Head;
@@ -32,22 +31,8 @@ fn is_cut(place: Place) -> bool
     }
 }
 
-// The first TLV of a type in a PDU whose TLVs start at a place. The walk to the end comes first: a cut anywhere is D5, also
-// behind the wanted TLV.
-fn seek_tlvs(pdu: &[u8], kind: u8, start: usize) -> Seek
-    ensures { λ r. ⌜ (r ≡ whole (walkFrom 0 start (now (pdu .entry))) (walkFrom kind start (now (pdu .entry)))) × Within (now (pdu .entry)) r ⌝ }
-{
-    if is_cut(walk(pdu, 0, start)) {
-        return Seek::Bad(Bad::CutOff);
-    }
-    match walk(pdu, kind, start) {
-        Place::Found { start: at, len } => Seek::Value { start: at, len },
-        Place::End(_) => Seek::NoSuch,
-        Place::Cut(_) => Seek::NoSuch,
-    }
-}
-
-// The same in a whole frame: a reason, no such TLV, or where in the frame its value stands, for a caller who cannot be handed a part.
+// The first TLV of a type in a frame: a reason, no such TLV, or where in the frame its value stands, for a caller who cannot be handed a part.
+// The walk to the end comes first: a cut anywhere is D5, also behind the wanted TLV.
 pub fn seek_frame(frame: &[u8], kind: u8) -> Seek
     ensures { λ r. ⌜ (r ≡ seekOf (now (frame .entry)) kind) × Within (now (frame .entry)) r ⌝ }
 {
@@ -57,13 +42,17 @@ pub fn seek_frame(frame: &[u8], kind: u8) -> Seek
         }
         Head::Tlvs(start) => start,
     };
-    match seek_tlvs(&frame[HEAD_LENGTH..], kind, start) {
-        Seek::Bad(b) => Seek::Bad(b),
-        Seek::NoSuch => Seek::NoSuch,
-        Seek::Value { start: at, len } => Seek::Value {
+    let pdu = &frame[HEAD_LENGTH..];
+    if is_cut(walk(pdu, 0, start)) {
+        return Seek::Bad(Bad::CutOff);
+    }
+    match walk(pdu, kind, start) {
+        Place::Found { start: at, len } => Seek::Value {
             start: HEAD_LENGTH + at,
             len,
         },
+        Place::End(_) => Seek::NoSuch,
+        Place::Cut(_) => Seek::NoSuch,
     }
 }
 

@@ -1,16 +1,18 @@
--- `reader::seek_frame` meets its contract: what the frame's head says, then what its PDU's TLVs say, at places of the frame.
+-- `reader::seek_frame` meets its contract: what the frame's head says, then whether the walk for the end is cut, then what the walk for the type
+-- finds, at its place in the frame.
 use native.Mathlib.Omega.{arith}
 use mathlib.Core.Path.{_≡_, sym, ap, _∙_}
 use mathlib.Core.List.{List}
-use Prim.Native.Nat.{ℕ, _-_, _≤_}
+use Prim.Native.Nat.{ℕ, _+_, _-_, _≤_}
 use denote.Ref.{now}
 use lib.ListN.{length, take, drop}
 use borrow.Author.Needs.{needs}
 use Rattle.whole.proofs.Loops.{part-rest}
-use Rattle.reader.specs.declared.Seek.{Seek}
-use Rattle.tlvs.specs.Tlvs.{walkFrom}
-use Rattle.reader.specs.Reader.{whole, inFrame, seekOf, Within}
-use Rattle.reader.proofs.Seeks.{seek-bad, seek-tlvs, long, within}
+use Rattle.reader.specs.declared.Seek.the-variants as seek
+use Rattle.tlvs.specs.declared.Place.{Place}
+use Rattle.tlvs.specs.Tlvs.{walkFrom, Inside}
+use Rattle.reader.specs.Reader.{isCut, wanted, whole, inFrame, seekOf}
+use Rattle.reader.proofs.Seeks.{whole-cut, whole-uncut, seek-bad, seek-tlvs, long, within}
 use Rattle.reader.proofs.seek_frame.Statement.{statement}
 use Rattle.reader.proofs.seek_frame.Tie as tie
 
@@ -18,25 +20,41 @@ use Rattle.reader.proofs.seek_frame.Tie as tie
 pdu-there : (c : tie.After-known-told2) → 14 ≤ length (now (c .before .before .before .before .before .args .frame))
 pdu-there c = long _ _ (sym (c .before .before .before .judge-frame .ensures) ∙ c .before .start .given .1)
 
--- what the PDU's TLVs say is what the frame's say, and lies in it
-module _ (c : tie.After-seek-tlvs) where
+-- both walks go over the frame's PDU, and the first tells whether it is cut
+module _ (c : tie.After-is-cut) where
   abbrev frame : List ℕ
-  frame = now (c .before .before .before .before .before .before .before .args .frame)
+  frame = now (c .before .before .before .before .before .before .before .before .args .frame)
 
   abbrev kind : ℕ
-  kind = c .before .before .before .before .before .before .before .args .kind
+  kind = c .before .before .before .before .before .before .before .before .args .kind
+
+  abbrev start : ℕ
+  start = c .before .before .before .before .start .given .0 .0
 
   rest : take (length frame - 14) (drop 14 frame) ≡ drop 14 frame
   rest = part-rest frame 14
 
-  is : inFrame (c .seek-tlvs .result) ≡ seekOf frame kind
-  is =
-      let start = c .before .before .before .start .given .0 .0 in
-      ap inFrame (c .seek-tlvs .ensures .0 ∙ ap (λ (q : List ℕ). whole (walkFrom 0 start q) (walkFrom kind start q)) rest)
-      ∙ sym (seek-tlvs frame kind start (sym (c .before .before .before .before .before .judge-frame .ensures) ∙ c .before .before .before .start .given .1))
+  abbrev ending : Place
+  ending = walkFrom 0 start (drop 14 frame)
 
-  inside : Within frame (inFrame (c .seek-tlvs .result))
-  inside = within frame (c .seek-tlvs .result) (pdu-there (c .before .before)) (rw rest at (c .seek-tlvs .ensures .1))
+  abbrev found : Place
+  found = walkFrom kind start (drop 14 frame)
+
+  sought : seekOf frame kind ≡ inFrame (whole ending found)
+  sought = seek-tlvs frame kind start (sym (c .before .before .before .before .before .before .judge-frame .ensures) ∙ c .before .before .before .before .start .given .1)
+
+  ended : isCut ending ≡ c .is-cut .result
+  ended = ap isCut (sym (c .before .walk .ensures .0 ∙ ap (walkFrom 0 start) rest)) ∙ sym (c .is-cut .ensures)
+
+-- past the first test the walk for the type decides
+module _ (c : tie.After-walk2) where
+  is : inFrame (wanted (c .walk2 .result)) ≡ seekOf (frame (c .before .before)) (kind (c .before .before))
+  is =
+      let b = c .before .before in
+      sym (sought b ∙ ap inFrame (whole-uncut (ending b) (found b) (ended b ∙ c .before .if1 .left) ∙ ap wanted (sym (c .walk2 .ensures .0 ∙ ap (walkFrom (kind b) (start b)) (rest b)))))
+
+  inside : Inside (drop 14 (frame (c .before .before))) (c .walk2 .result)
+  inside = rw (rest (c .before .before)) at (c .walk2 .ensures .1)
 
 judge-frame-requires : tie.Need-judge-frame-requires
 judge-frame-requires c κs = search needs
@@ -50,42 +68,57 @@ returns c = (sym (seek-bad _ _ _ (sym (c .before .before .before .judge-frame .e
 enum-known-start : tie.Need-enum-known-start
 enum-known-start c = search needs
 
-sub-seek-tlvs : tie.Need-sub-seek-tlvs
-sub-seek-tlvs c = pdu-there c
+sub-pdu : tie.Need-sub-pdu
+sub-pdu c = pdu-there c
 
-part-seek-tlvs-start : tie.Need-part-seek-tlvs-start
-part-seek-tlvs-start c = omega (arith, pdu-there c)
+part-pdu-start : tie.Need-part-pdu-start
+part-pdu-start c = omega (arith, pdu-there c)
 
-part-seek-tlvs-end : tie.Need-part-seek-tlvs-end
-part-seek-tlvs-end c = search needs
+part-pdu-end : tie.Need-part-pdu-end
+part-pdu-end c = search needs
 
-seek-tlvs-requires : tie.Need-seek-tlvs-requires
-seek-tlvs-requires c κs = search needs
+walk-requires : tie.Need-walk-requires
+walk-requires c κs = search needs
 
-enum-known-b-2 : tie.Need-enum-known-b-2
-enum-known-b-2 c = search needs
+is-cut-requires : tie.Need-is-cut-requires
+is-cut-requires c κs = search needs
 
-enum-told : tie.Need-enum-told
-enum-told c = search needs
+returns-2 : tie.Need-returns-2
+returns-2 c = (sym (sought (c .before) ∙ ap inFrame (whole-cut (ending (c .before)) (found (c .before)) (ended (c .before) ∙ c .if1 .taken))), tt)
+
+walk-requires-2 : tie.Need-walk-requires-2
+walk-requires-2 c κs = search needs
 
 enum-known-at : tie.Need-enum-known-at
 enum-known-at c = search needs
 
-add-t17 : tie.Need-add-t17
-add-t17 c = let s = c .before .before .before in
-    let w = rw (c .before .at .given .1) at (inside s) in omega arith
+-- a value that is found lies in the frame
+module _ (c : tie.After-known-told3) where
+  fits : 14 + c .before .at .given .0 .0 + c .before .at .given .0 .1 .0 ≤ length (frame (c .before .before .before .before .before))
+  fits = within (frame (c .before .before .before .before .before)) (seek.Value (c .before .at .given .0 .0) (c .before .at .given .0 .1 .0))
+      (pdu-there (c .before .before .before .before .before .before .before .before))
+      (rw (c .before .at .given .1) at (inside (c .before .before .before)))
 
-returns-2 : tie.Need-returns-2
-returns-2 c = let s = c .before .before .before in
-    (sym (ap inFrame (c .before .b2 .given .1)) ∙ is s, tt)
+add-t19 : tie.Need-add-t19
+add-t19 c = let w = fits c in omega arith
+
+enum-told : tie.Need-enum-told
+enum-told c = search needs
+
+enum-told-2 : tie.Need-enum-told-2
+enum-told-2 c = search needs
 
 returns-3 : tie.Need-returns-3
-returns-3 c = let s = c .before .before in
-    (sym (ap inFrame (c .enum-told .given .1)) ∙ is s, tt)
+returns-3 c = let w = c .before .before .before in
+    (ap (λ p. inFrame (wanted p)) (sym (c .before .at .given .1)) ∙ is w, fits c)
 
 returns-4 : tie.Need-returns-4
-returns-4 c = let s = c .before .before .before in
-    (sym (ap inFrame (c .before .at .given .1)) ∙ is s, rw (c .before .at .given .1) at (inside s))
+returns-4 c = let w = c .before .before in
+    (ap (λ p. inFrame (wanted p)) (sym (c .enum-told .given .1)) ∙ is w, tt)
+
+returns-5 : tie.Need-returns-5
+returns-5 c = let w = c .before .before in
+    (ap (λ p. inFrame (wanted p)) (sym (c .enum-told2 .given .1)) ∙ is w, tt)
 
 pub seek-frame-spec : {M : Type 1} → statement M
 seek-frame-spec =
@@ -95,14 +128,17 @@ seek-frame-spec =
     enum-known-b
     returns
     enum-known-start
-    sub-seek-tlvs
-    part-seek-tlvs-start
-    part-seek-tlvs-end
-    seek-tlvs-requires
-    enum-known-b-2
-    enum-told
-    enum-known-at
-    add-t17
+    sub-pdu
+    part-pdu-start
+    part-pdu-end
+    walk-requires
+    is-cut-requires
     returns-2
+    walk-requires-2
+    enum-known-at
+    add-t19
+    enum-told
+    enum-told-2
     returns-3
-    returns-4)
+    returns-4
+    returns-5)

@@ -9,7 +9,7 @@ use Rattle.stamps.specs.Stamps.{Wire}
 use Rattle.state.specs.State.{State, lying}
 use Rattle.class.specs.declared.Side.{Side}
 use Rattle.class.specs.declared.Side.the-variants as side
-use Rattle.start.specs.declared.SettingAnswer.{SettingAnswer}
+use Rattle.settinganswer.specs.declared.SettingAnswer.{SettingAnswer}
 use Rattle.start.proofs.new_setting.Reads as new-setting
 use Rattle.receive.specs.Frame.{frameOf}
 use Rattle.receive.proofs.on_frame.Reads as on-frame

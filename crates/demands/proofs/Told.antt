@@ -1,8 +1,8 @@
 -- Each case of each answer, by computing. Assumes nothing.
 use mathlib.Core.Path.{_≡_, refl}
-use Rattle.start.specs.declared.SettingAnswer.{SettingAnswer}
-use Rattle.start.specs.declared.SettingAnswer.the-variants as setting
-use Rattle.start.specs.Start as Start
+use Rattle.settinganswer.specs.declared.SettingAnswer.{SettingAnswer}
+use Rattle.settinganswer.specs.declared.SettingAnswer.the-variants as setting
+use Rattle.settinganswer.specs.Told as Setting
 use Rattle.answers.specs.declared.FrameAnswer.{FrameAnswer}
 use Rattle.answers.specs.declared.FrameAnswer.the-variants as answer
 use Rattle.answers.specs.Told as Frame
@@ -19,8 +19,8 @@ use Rattle.sends.specs.declared.DmmAnswer.the-variants as dmm
 use Rattle.demands.specs.Words.{settingAnswer, frameAnswer, clearAnswer, tickAnswer, lmmAnswer, dmmAnswer}
 use Rattle.demands.specs.Told.{counted, numbersOf, frameNumbers, ToldAlike}
 
-of-setting : (r : SettingAnswer) → counted (Start.told r .refusal) 0 0 ≡ numbersOf (settingAnswer r)
-unfolding Start.told
+of-setting : (r : SettingAnswer) → counted (Setting.told r .refusal) 0 0 ≡ numbersOf (settingAnswer r)
+unfolding Setting.told
 of-setting setting.Invalid = refl
 of-setting setting.Set = refl
 

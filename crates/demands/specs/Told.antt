@@ -3,8 +3,8 @@
 use Prim.Native.Nat.{ℕ}
 use mathlib.Core.Path.{_≡_}
 use lib.IntN.{ℤ, pos}
-use Rattle.start.specs.Start as Start
-use Rattle.start.specs.declared.SettingAnswer.{SettingAnswer}
+use Rattle.settinganswer.specs.Told as Setting
+use Rattle.settinganswer.specs.declared.SettingAnswer.{SettingAnswer}
 use Rattle.clear.specs.Clear as Clear
 use Rattle.clear.specs.declared.ClearAnswer.{ClearAnswer}
 use Rattle.sends.specs.Told.{tickTold, lmmTold, dmmTold}
@@ -56,7 +56,7 @@ frameNumbers r = record {
 }
 
 pub record ToldAlike : Type 0 where
-  pub setting : (r : SettingAnswer) → counted (Start.told r .refusal) 0 0 ≡ numbersOf (settingAnswer r)
+  pub setting : (r : SettingAnswer) → counted (Setting.told r .refusal) 0 0 ≡ numbersOf (settingAnswer r)
   pub frame : (r : FrameAnswer) → frameNumbers r ≡ numbersOf (frameAnswer r)
   pub tick : (r : TickAnswer) → counted (tickTold r .refusal) 0 (tickTold r .length) ≡ numbersOf (tickAnswer r)
   pub clear : (r : ClearAnswer) → counted (Clear.told r .refusal) 0 0 ≡ numbersOf (clearAnswer r)

@@ -2,8 +2,8 @@
 use mathlib.Core.Bool.{cond}
 use lib.Dec.{eqb}
 use lib.IntN.{pos}
-use Rattle.start.specs.declared.SettingAnswer.the-variants as setting
-use Rattle.start.specs.declared.SettingAnswer.{SettingAnswer}
+use Rattle.settinganswer.specs.declared.SettingAnswer.the-variants as setting
+use Rattle.settinganswer.specs.declared.SettingAnswer.{SettingAnswer}
 use Rattle.clear.specs.declared.ClearAnswer.the-variants as cleared
 use Rattle.clear.specs.declared.ClearAnswer.{ClearAnswer}
 use Rattle.conditions.specs.declared.ConditionFlags.{ConditionFlags}

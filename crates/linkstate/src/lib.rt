@@ -27,7 +27,7 @@ pub extern "C" fn linkbox_new_setting(
     ensures { λ _. ⌜ Started (now (set .entry)) (now (names .entry)) (now (ids .entry)) (now (set .exit)) (now (names .exit)) (now (ids .exit)) (now (timers .exit)) (now (rdi .exit)) (now (run .exit)) (now (totals .exit)) ⌝ }
 {
     let answer = start::new_setting(set, names, ids, timers, rdi, run, totals);
-    let told = start::tell(answer);
+    let told = settinganswer::tell(answer);
     told.refusal
 }
 

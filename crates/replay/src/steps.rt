@@ -50,7 +50,7 @@ pub(crate) fn run_setting(held: Held, call: &[u8; MOST], line: &mut [u8]) -> Ran
         &mut run,
         &mut totals,
     );
-    let told = start::tell(answer);
+    let told = settinganswer::tell(answer);
     after = StateArrays {
         set,
         names,

@@ -3,7 +3,6 @@
 use mathlib.Core.Path.{_≡_, sym, _∙_}
 use denote.Ref.{now}
 use Rattle.start.proofs.new_setting.Reads as new-setting
-use Rattle.start.proofs.tell.Reads as tell
 
 pub new-setting-one : (κs : _) (a : _) (r r′ : _) (s s′ : _) → new-setting.Post κs a r s → new-setting.Post κs a r′ s′
     → (r ≡ r′)
@@ -24,6 +23,3 @@ new-setting-one κs a r r′ s s′ p q = (
   p .1 .run-is ∙ sym (q .1 .run-is),
   p .1 .totals-are ∙ sym (q .1 .totals-are),
 )
-
-pub tell-one : (κs : _) (a : _) (r r′ : _) (s s′ : _) → tell.Post κs a r s → tell.Post κs a r′ s′ → r ≡ r′
-tell-one κs a r r′ s s′ p q = p ∙ sym q

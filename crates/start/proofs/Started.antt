@@ -10,9 +10,10 @@ use Rattle.period.specs.Periods.{ticksOf, holdOf}
 use Rattle.settings.specs.Settings.{slots, Settings, settingsOf}
 use Rattle.settings.specs.Valid.{valid}
 use Rattle.state.specs.State.{State, viewOf}
-use Rattle.start.specs.declared.SettingAnswer.{SettingAnswer}
-use Rattle.start.specs.declared.SettingAnswer.the-variants.{Invalid, Set}
-use Rattle.start.specs.Start.{startOf, zeroState, afterSetting, answerOf, told, numbersOf, Started}
+use Rattle.settinganswer.specs.declared.SettingAnswer.{SettingAnswer}
+use Rattle.settinganswer.specs.declared.SettingAnswer.the-variants.{Invalid, Set}
+use Rattle.settinganswer.specs.Told.{told}
+use Rattle.start.specs.Start.{startOf, zeroState, afterSetting, answerOf, numbersOf, Started}
 
 tells : (b : Bool) → told (cond b Set Invalid) ≡ cond b (record { refusal = 0 }) (record { refusal = 4 })
 unfolding told

@@ -15,9 +15,10 @@ use Rattle.settings.specs.Valid.{Valid, valid}
 use Rattle.session.specs.Session.{clearedSession}
 use Rattle.state.specs.State.{State, viewOf}
 use Rattle.state.specs.WellFormed.{WellFormed}
-use Rattle.start.specs.declared.SettingAnswer.{SettingAnswer}
-use Rattle.start.specs.declared.SettingAnswer.the-variants.{Invalid, Set}
-use Rattle.start.specs.declared.SettingTold.{SettingTold}
+use Rattle.settinganswer.specs.declared.SettingAnswer.{SettingAnswer}
+use Rattle.settinganswer.specs.declared.SettingAnswer.the-variants.{Invalid, Set}
+use Rattle.settinganswer.specs.declared.SettingTold.{SettingTold}
+use Rattle.settinganswer.specs.Told.{told}
 
 abbrev pub startOf : Settings → State
 startOf s = record {
@@ -59,10 +60,6 @@ pub record Started (set names ids set′ names′ ids′ timers rdi run : List �
   pub view : viewOf set′ names′ ids′ timers rdi run totals ≡ afterSetting (settingsOf set names ids)
 
 -- ── in the paper's numbers ──
-
-unfoldable pub told : SettingAnswer → SettingTold
-told Invalid = record { refusal = 4 }
-told Set = record { refusal = 0 }
 
 abbrev pub numbersOf : Settings → SettingTold
 numbersOf s = cond (valid s) (record { refusal = 0 }) (record { refusal = 4 })

@@ -5,12 +5,14 @@ ghost use lib.IntN.{pos};
 ghost use lib.ListN.{replicate};
 ghost use Rattle.whole.specs.Lists.{onFirst};
 ghost use Rattle.settings.specs.Settings.{slots, settingsOf};
-ghost use Rattle.start.specs.Start.{answerOf, told, numbersOf, Started};
+ghost use Rattle.settinganswer.specs.Told.{told};
+ghost use Rattle.start.specs.Start.{answerOf, numbersOf, Started};
 use fill::set_first;
 use fill::zero_words;
 use octets::parts::copy_octets;
 use period::hold_of;
 use period::ticks_of;
+use settinganswer::SettingAnswer;
 use settings::COUNT;
 use settings::PEERS;
 use settings::PERIOD;
@@ -18,19 +20,6 @@ use settings::is_valid;
 use state::FAR;
 use state::NEAR;
 use state::NEXT;
-
-// What a new setting is answered.
-pub enum SettingAnswer {
-    // Refusal 4: it breaks a rule on its values.
-    Invalid,
-    Set,
-}
-
-// An answer in the paper's numbers: the refusal, or 0.
-#[repr(C)]
-pub struct SettingTold {
-    pub refusal: u32,
-}
 
 // Sets the running part of a state to zeros.
 fn zero_running(
@@ -91,14 +80,4 @@ pub fn new_setting(
     start_timers(timers, count, hold_of(period));
     run[NEXT] = ticks_of(period);
     SettingAnswer::Set
-}
-
-// An answer in the paper's numbers.
-pub fn tell(answer: SettingAnswer) -> SettingTold
-    ensures { λ r. ⌜ r ≡ told answer ⌝ }
-{
-    match answer {
-        SettingAnswer::Invalid => SettingTold { refusal: 4 },
-        SettingAnswer::Set => SettingTold { refusal: 0 },
-    }
 }

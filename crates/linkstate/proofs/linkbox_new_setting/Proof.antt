@@ -1,6 +1,6 @@
 -- `linkstate::linkbox_new_setting` meets its contract: the room's answer, told.
 use mathlib.Core.Path.{ap, _∙_}
-use Rattle.start.specs.declared.SettingTold.{SettingTold}
+use Rattle.settinganswer.specs.declared.SettingTold.{SettingTold}
 use borrow.Author.Needs.{needs}
 use Rattle.linkstate.proofs.linkbox_new_setting.Statement.{statement}
 use Rattle.linkstate.proofs.linkbox_new_setting.Tie as tie

@@ -8,7 +8,7 @@ use lib.ListN.{getD, set}
 use borrow.Author.Tests.{not-true, not-false}
 use Rattle.whole.specs.Lists.{onFirst}
 use Rattle.settings.specs.Settings.{settingsOf}
-use Rattle.start.specs.declared.SettingAnswer.the-variants.{Invalid, Set}
+use Rattle.settinganswer.specs.declared.SettingAnswer.the-variants.{Invalid, Set}
 use Rattle.start.proofs.Started.{numbered, wiped, begun}
 use borrow.Author.Needs.{needs}
 use Rattle.start.proofs.new_setting.Statement.{statement}

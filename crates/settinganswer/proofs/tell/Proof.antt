@@ -1,9 +1,9 @@
--- `start::tell` meets its contract, case by case.
+-- `settinganswer::tell` meets its contract, case by case.
 use mathlib.Core.Path.{sym, ap}
-use Rattle.start.specs.Start.{told}
+use Rattle.settinganswer.specs.Told.{told}
 use borrow.Author.Needs.{needs}
-use Rattle.start.proofs.tell.Statement.{statement}
-use Rattle.start.proofs.tell.Tie as tie
+use Rattle.settinganswer.proofs.tell.Statement.{statement}
+use Rattle.settinganswer.proofs.tell.Tie as tie
 
 enum-told : tie.Need-enum-told
 enum-told c = search needs

@@ -1,10 +1,8 @@
 -- What an answer tells is what the reader tells, and whether the value holds. Assumes nothing.
 use Prim.Native.Nat.{ℕ}
-use mathlib.Core.Path.{_≡_, refl, ap, sym, _∙_}
+use mathlib.Core.Path.{_≡_, refl, ap, _∙_}
 use mathlib.Core.Bool.{Bool, true, false}
-use mathlib.Core.List.{List, [], _∷_}
-use lib.Dec.{eqb}
-use Rattle.whole.specs.Tests.{choose}
+use mathlib.Core.List.{List}
 use Rattle.reasons.specs.declared.Bad.the-variants.{Length, Short, Opcode, Offset, CutOff}
 use Rattle.reasons.specs.declared.TlvAnswer.{TlvAnswer}
 use Rattle.reasons.specs.declared.TlvAnswer.the-variants as tlv
@@ -13,11 +11,10 @@ use Rattle.reader.specs.Reader.{answerOf}
 use Rattle.reasons.specs.Told.{badOf, told as reader-told}
 use Rattle.reader.specs.Numbers.{numbersOf}
 use Rattle.reader.proofs.Numbers.{agree}
-use Rattle.values.specs.declared.ValueAnswer.{ValueAnswer}
-use Rattle.values.specs.declared.ValueAnswer.the-variants.{Holds, Differs, NoSuch, Bad}
-use Rattle.values.specs.declared.ValueTold.{ValueTold}
+use Rattle.valueanswer.specs.declared.ValueAnswer.{ValueAnswer}
+use Rattle.valueanswer.specs.Told.{told}
 use Rattle.values.specs.Values.{outcomeOf}
-use Rattle.values.specs.Told.{told, withHolds, ValueNumbers}
+use Rattle.values.specs.Told.{withHolds}
 
 pub tells : (a : TlvAnswer) (holds : Bool) → told (outcomeOf a holds) ≡ withHolds (reader-told a) holds
 unfolding told outcomeOf reader-told badOf
@@ -34,31 +31,3 @@ tells (tlv.Bad CutOff) holds = refl
 pub numbered : (f : List ℕ) (kind : ℕ) (holds : Bool) (r : ValueAnswer) → r ≡ outcomeOf (answerOf f kind) holds
     → (r ≡ outcomeOf (answerOf f kind) holds) × (told r ≡ withHolds (numbersOf f kind) holds)
 numbered f kind holds r e = (e, ap told e ∙ tells (answerOf f kind) holds ∙ ap (λ (t : TlvTold). withHolds t holds) (agree f kind))
-
--- the answer that is meant by its numbers
-back : ValueTold → ValueAnswer
-back t =
-    choose (
-    (eqb (t .refusal) 1, Bad Length)
-    ∷ (eqb (t .drop) 1, Bad Short)
-    ∷ (eqb (t .drop) 3, Bad Opcode)
-    ∷ (eqb (t .drop) 4, Bad Offset)
-    ∷ (eqb (t .drop) 5, Bad CutOff)
-    ∷ (eqb (t .holds) 1, Holds)
-    ∷ (eqb (t .value) 1, Differs)
-    ∷ [])
-    NoSuch
-
-back-told : (a : ValueAnswer) → back (told a) ≡ a
-unfolding back choose told badOf
-back-told Holds = refl
-back-told Differs = refl
-back-told NoSuch = refl
-back-told (Bad Length) = refl
-back-told (Bad Short) = refl
-back-told (Bad Opcode) = refl
-back-told (Bad Offset) = refl
-back-told (Bad CutOff) = refl
-
-pub value-numbers : ValueNumbers
-value-numbers = record { apart = λ a b e. sym (back-told a) ∙ ap back e ∙ back-told b }

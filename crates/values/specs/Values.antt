@@ -10,8 +10,8 @@ use Rattle.whole.specs.Lists.{every, same}
 use Rattle.reasons.specs.declared.TlvAnswer.{TlvAnswer}
 use Rattle.reasons.specs.declared.TlvAnswer.the-variants as tlv
 use Rattle.reader.specs.Reader.{valueOf, answerOf}
-use Rattle.values.specs.declared.ValueAnswer.{ValueAnswer}
-use Rattle.values.specs.declared.ValueAnswer.the-variants.{Holds, Differs, NoSuch, Bad}
+use Rattle.valueanswer.specs.declared.ValueAnswer.{ValueAnswer}
+use Rattle.valueanswer.specs.declared.ValueAnswer.the-variants.{Holds, Differs, NoSuch, Bad}
 
 -- the types of the two TLVs
 abbrev pub dataType : ℕ

@@ -1,11 +1,11 @@
--- `values::tell` meets its contract, case by case; a bad frame's numbers are the reader's.
+-- `valueanswer::tell` meets its contract, case by case; a bad frame's numbers are the reader's.
 use mathlib.Core.Path.{sym, ap, _∙_}
 use borrow.Author.Needs.{needs}
 use Rattle.reasons.specs.declared.TlvTold.{TlvTold}
 use Rattle.reasons.specs.Told.{told as reader-told}
-use Rattle.values.specs.Told.{numbers, told}
-use Rattle.values.proofs.tell.Statement.{statement}
-use Rattle.values.proofs.tell.Tie as tie
+use Rattle.valueanswer.specs.Told.{numbers, told}
+use Rattle.valueanswer.proofs.tell.Statement.{statement}
+use Rattle.valueanswer.proofs.tell.Tie as tie
 
 enum-told : tie.Need-enum-told
 enum-told c = search needs

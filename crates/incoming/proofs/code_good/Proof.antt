@@ -37,16 +37,16 @@ enum-told-10 : tie.Need-enum-told-10
 enum-told-10 c = search needs
 
 returns : tie.Need-returns
-returns c = search needs
+returns c = sym (ap (λ (h : Handler). codeGood h (c .before .before .args .code)) (c .enum-told .given .1))
 
 returns-2 : tie.Need-returns-2
-returns-2 c = search needs
+returns-2 c = sym (ap (λ (h : Handler). codeGood h (c .before .before .args .code)) (c .enum-told2 .given .1))
 
 returns-3 : tie.Need-returns-3
 returns-3 c = sym (ap (λ (h : Handler). codeGood h (c .before .before .args .code)) (c .enum-told3 .given .1))
 
 returns-4 : tie.Need-returns-4
-returns-4 c = search needs
+returns-4 c = sym (ap (λ (h : Handler). codeGood h (c .before .before .args .code)) (c .enum-told4 .given .1))
 
 returns-5 : tie.Need-returns-5
 returns-5 c = sym (ap (λ (h : Handler). codeGood h (c .before .before .args .code)) (c .enum-told5 .given .1))
@@ -55,16 +55,16 @@ returns-6 : tie.Need-returns-6
 returns-6 c = sym (ap (λ (h : Handler). codeGood h (c .before .before .args .code)) (c .enum-told6 .given .1))
 
 returns-7 : tie.Need-returns-7
-returns-7 c = search needs
+returns-7 c = sym (ap (λ (h : Handler). codeGood h (c .before .before .args .code)) (c .enum-told7 .given .1))
 
 returns-8 : tie.Need-returns-8
-returns-8 c = search needs
+returns-8 c = sym (ap (λ (h : Handler). codeGood h (c .before .before .args .code)) (c .enum-told8 .given .1))
 
 returns-9 : tie.Need-returns-9
-returns-9 c = search needs
+returns-9 c = sym (ap (λ (h : Handler). codeGood h (c .before .before .args .code)) (c .enum-told9 .given .1))
 
 returns-10 : tie.Need-returns-10
-returns-10 c = search needs
+returns-10 c = sym (ap (λ (h : Handler). codeGood h (c .before .before .args .code)) (c .enum-told10 .given .1))
 
 pub code-good-spec : {M : Type 1} → statement M
 code-good-spec =

@@ -81,8 +81,9 @@ pub fn recount(into: &mut [u8], from: &[u8], session: LossSession) -> Recounted
         if next.told.refusal != 0 {
             return worked_to(next.told.refusal, i, s);
         }
-        s = next.session;
-        put_record(into, i * LINE, s);
+        let after = next.session;
+        put_record(into, i * LINE, after);
+        s = after;
         i += 1;
     }
     worked_to(0, count, s)

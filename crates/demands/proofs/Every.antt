@@ -23,7 +23,7 @@ use Rattle.delay.specs.Delays.{formed, held}
 use Rattle.opcodes.specs.Opcodes.{ruleOf, handled}
 use Rattle.frame.specs.Head.{etherTypeOf, lengthGood, offsetOf, startOf}
 use Rattle.tlvs.specs.Tlvs.{walkFrom}
-use Rattle.reader.specs.Reader.{isCut}
+use Rattle.seek.specs.Seek.{isCut}
 use Rattle.ccmfields.specs.Ccm.{ccmIn, megIn}
 use Rattle.incoming.specs.Message.{alarmCode}
 use Rattle.incoming.specs.Told.{goodOpcode}

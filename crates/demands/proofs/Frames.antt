@@ -14,7 +14,7 @@ use Rattle.opcodes.specs.Opcodes.{ruleOf}
 use Rattle.reasons.specs.declared.Bad.the-variants.{Offset, CutOff}
 use Rattle.frame.specs.Head.{pduOf, opcodeOf, offsetOf, flagsOf, startOf}
 use Rattle.tlvs.specs.Tlvs.{walkFrom}
-use Rattle.reader.specs.Reader.{isCut}
+use Rattle.seek.specs.Seek.{isCut}
 use Rattle.kinds.specs.declared.MessageAnswer.the-variants.{Message, PeriodCode}
 use Rattle.incoming.specs.Message.{periodCode, codeGood, judgedOf, messageOf}
 use Rattle.state.specs.State.{State}

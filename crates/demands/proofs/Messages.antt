@@ -17,10 +17,11 @@ use Rattle.reasons.specs.declared.TlvAnswer.{TlvAnswer}
 use Rattle.reasons.specs.declared.TlvAnswer.the-variants as tlv
 use Rattle.frame.specs.Head.{etherTypeOf, pduOf, opcodeOf, offsetOf, flagsOf, startOf}
 use Rattle.tlvs.specs.Tlvs.{Tlvs, walkFrom}
-use Rattle.reader.specs.Reader.{isCut, answerOf}
+use Rattle.seek.specs.Seek.{isCut}
+use Rattle.reader.specs.Reader.{answerOf}
 use Rattle.reader.specs.Numbers.{isFound}
 use Rattle.judge.proofs.Judged.{frame-oam, pdu-offset, pdu-tlvs}
-use Rattle.reader.proofs.Seeks.{seek-bad, seek-tlvs, whole-cut}
+use Rattle.seek.proofs.Seeks.{seek-bad, seek-tlvs, whole-cut}
 use Rattle.tlvs.proofs.Agrees.{walk-agrees}
 use Rattle.reader.proofs.Numbers.{not-found}
 use Rattle.kinds.specs.declared.MessageAnswer.{MessageAnswer}

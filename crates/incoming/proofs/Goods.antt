@@ -18,12 +18,13 @@ use Rattle.opcodes.specs.Opcodes.{ruleOf, known}
 use Rattle.reasons.specs.declared.Bad.{Bad}
 use Rattle.tlvs.specs.declared.Place.{Place}
 use Rattle.tlvs.specs.declared.Place.the-variants.{End, Found, Cut}
-use Rattle.reader.specs.declared.Seek.{Seek}
+use Rattle.seek.specs.declared.Seek.{Seek}
 use Rattle.reasons.specs.declared.TlvAnswer.{TlvAnswer}
 use Rattle.frame.specs.Head.{etherTypeOf, isOam, lengthGood, headLength, pduOf, opcodeOf, offsetOf, startOf}
 use Rattle.tlvs.specs.Tlvs.{lengthOf, walk, walkFrom}
-use Rattle.reader.specs.Reader.{isCut, wanted, whole, inFrame, answerAt, answerOf, partOf, valueOf}
-use Rattle.reader.proofs.Chain.{chained, through}
+use Rattle.seek.specs.Seek.{isCut, wanted, whole, inFrame}
+use Rattle.reader.specs.Reader.{answerAt, answerOf, partOf, valueOf}
+use Rattle.seek.proofs.Chain.{chained, through}
 use Rattle.tlvs.proofs.Steps.{past}
 use Rattle.incoming.specs.Good.{Headed, Good, isBad, tlvsOf, GoodFrames}
 

@@ -11,7 +11,8 @@ use Rattle.reasons.specs.declared.TlvAnswer.{TlvAnswer}
 use Rattle.reasons.specs.declared.TlvAnswer.the-variants as answer
 use Rattle.frame.specs.Head.{etherTypeOf, pduOf, opcodeOf, offsetOf, startOf}
 use Rattle.tlvs.specs.Tlvs.{walkFrom}
-use Rattle.reader.specs.Reader.{isCut, answerOf, valueOf}
+use Rattle.seek.specs.Seek.{isCut}
+use Rattle.reader.specs.Reader.{answerOf, valueOf}
 
 -- what is asked before the TLVs: 1, D3 of a service frame, D1, D3, D4
 pub record Headed (f : List ℕ) : Type 0 where

@@ -2,8 +2,8 @@
 -- Definitions only.
 use Prim.Native.Nat.{ℕ}
 use Rattle.reasons.specs.Told.{told}
-use Rattle.reader.specs.declared.Seek.{Seek}
-use Rattle.reader.specs.declared.Seek.the-variants as seek
+use Rattle.seek.specs.declared.Seek.{Seek}
+use Rattle.seek.specs.declared.Seek.the-variants as seek
 use Rattle.reader.specs.Reader.{answerAt}
 use Rattle.linkreader.specs.declared.TlvAt.{TlvAt}
 

@@ -2,11 +2,11 @@
 // numbers. Any content of the memory is a value. What a caller sees to is that the pointer is to memory of this size.
 ghost use mathlib.Core.Path.{_≡_};
 ghost use Rattle.reasons.specs.Told.{told as tlvTold};
-ghost use Rattle.reader.specs.Reader.{seekOf};
+ghost use Rattle.seek.specs.Seek.{seekOf};
 ghost use Rattle.linkreader.specs.Tlvs.{tlvAt};
-use reader::Seek;
-use reader::seek_frame;
 use reasons::TlvAnswer;
+use seek::Seek;
+use seek::seek_frame;
 
 // A TLV in the paper's numbers: the refusal, or 0; the drop, or 0; 1 where there is a value; and where in the frame it stands.
 #[repr(C)]

@@ -18,8 +18,9 @@ use Rattle.reasons.specs.declared.TlvAnswer.{TlvAnswer}
 use Rattle.reasons.specs.declared.TlvAnswer.the-variants.{NoSuch}
 use Rattle.frame.specs.Head.{destinationOf, sourceOf, pduOf, levelOf, versionOf, opcodeOf, flagsOf, offsetOf, startOf}
 use Rattle.tlvs.specs.Tlvs.{walkFrom}
-use Rattle.reader.specs.Reader.{isCut, whole, inFrame, answerAt, answerOf}
-use Rattle.reader.proofs.Chain.{through}
+use Rattle.seek.specs.Seek.{isCut, whole, inFrame}
+use Rattle.reader.specs.Reader.{answerAt, answerOf}
+use Rattle.seek.proofs.Chain.{through}
 use Rattle.tlvs.proofs.Steps.{ended}
 use Rattle.kinds.specs.declared.MessageAnswer.{MessageAnswer}
 use Rattle.kinds.specs.declared.MessageAnswer.the-variants.{Message}

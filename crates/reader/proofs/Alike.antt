@@ -16,9 +16,10 @@ use Rattle.tlvs.specs.declared.Place.{Place}
 use Rattle.tlvs.specs.declared.Place.the-variants.{End, Found, Cut}
 use Rattle.frame.specs.Head.{pduOf, startOf}
 use Rattle.tlvs.specs.Tlvs.{lengthOf, walk, walkFrom}
-use Rattle.reader.specs.Reader.{whole, wanted, inFrame, partOf, valueOf, placeAt, placeOf, answerAt, answerOf}
+use Rattle.seek.specs.Seek.{whole, wanted, inFrame}
+use Rattle.reader.specs.Reader.{partOf, valueOf, placeAt, placeOf, answerAt, answerOf}
 use Rattle.reader.specs.Alike.{Alike, ReadAlike}
-use Rattle.reader.proofs.Chain.{chained, through}
+use Rattle.seek.proofs.Chain.{chained, through}
 
 module _ (f g : List ℕ) (a : Alike f g) where
   pdu-long : length (pduOf f) ≡ length (pduOf g)

@@ -12,17 +12,18 @@ use Rattle.reasons.specs.declared.Bad.{Bad}
 use Rattle.reasons.specs.declared.Bad.the-variants.{Length, Short, Opcode, Offset, CutOff}
 use Rattle.tlvs.specs.declared.Place.{Place}
 use Rattle.tlvs.specs.declared.Place.the-variants as place
-use Rattle.reader.specs.declared.Seek.{Seek}
-use Rattle.reader.specs.declared.Seek.the-variants as seek
+use Rattle.seek.specs.declared.Seek.{Seek}
+use Rattle.seek.specs.declared.Seek.the-variants as seek
 use Rattle.reasons.specs.declared.TlvAnswer.{TlvAnswer}
 use Rattle.reasons.specs.declared.TlvAnswer.the-variants as answer
 use Rattle.reasons.specs.declared.TlvTold.{TlvTold}
 use Rattle.frame.specs.Head.{pduOf, startOf}
 use Rattle.tlvs.specs.Tlvs.{lengthOf, walk, walkFrom}
-use Rattle.reader.specs.Reader.{isCut, wanted, whole, inFrame, answerAt, answerOf}
+use Rattle.seek.specs.Seek.{isCut, wanted, whole, inFrame}
+use Rattle.reader.specs.Reader.{answerAt, answerOf}
 use Rattle.reasons.specs.Told.{numbers, badOf, told}
 use Rattle.reader.specs.Numbers.{isFound, numbersOf, ReaderNumbers}
-use Rattle.reader.proofs.Chain.{chained, through}
+use Rattle.seek.proofs.Chain.{chained, through}
 
 -- what is told of a place of the PDU, in numbers
 found-told : (w : Place) → told (answerAt (inFrame (wanted w))) ≡ cond (isFound w) (numbers 0 0 1) (numbers 0 0 0)

@@ -2,12 +2,8 @@
 -- off the source's own clauses. Assumes nothing.
 use mathlib.Core.Path.{_≡_, sym, _∙_}
 use denote.Ref.{now, ptr}
-use Rattle.reader.proofs.seek_frame.Reads as seek-frame
 use Rattle.reader.proofs.tlv_value.Reads as tlv-value
 use Rattle.reader.proofs.tlv_answer.Reads as tlv-answer
-
-pub seek-frame-one : (κs : _) (a : _) (r r′ : _) (s s′ : _) → seek-frame.Post κs a r s → seek-frame.Post κs a r′ s′ → r ≡ r′
-seek-frame-one κs a r r′ s s′ p q = p .0 ∙ sym (q .0)
 
 pub tlv-value-one : (κs : _) (a : _) (r r′ : _) (s s′ : _) → tlv-value.Post κs a r s → tlv-value.Post κs a r′ s′ → (now r ≡ now r′) × (ptr r ≡ ptr r′)
 tlv-value-one κs a r r′ s s′ p q = (p .0 ∙ sym (q .0), p .1 ∙ sym (q .1))

@@ -15,7 +15,8 @@ use Rattle.reasons.specs.declared.TlvAnswer.the-variants as answer
 use Rattle.reasons.specs.declared.TlvTold.{TlvTold}
 use Rattle.frame.specs.Head.{isOam, lengthGood, pduOf, opcodeOf, offsetOf, startOf}
 use Rattle.tlvs.specs.Tlvs.{walkFrom}
-use Rattle.reader.specs.Reader.{isCut, answerOf}
+use Rattle.seek.specs.Seek.{isCut}
+use Rattle.reader.specs.Reader.{answerOf}
 use Rattle.reasons.specs.Told.{numbers, told}
 
 abbrev pub isFound : Place → Bool

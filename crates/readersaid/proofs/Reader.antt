@@ -22,12 +22,13 @@ use Rattle.tlvs.specs.Tlvs.{Tlvs, end, one, firstOf, walkFrom, valueAt}
 use Rattle.tlvs.proofs.Agrees.{walk-agrees}
 use Rattle.reasons.specs.declared.Bad.{Bad}
 use Rattle.reasons.specs.declared.Bad.the-variants.{Length, Short, Opcode, Offset, CutOff}
-use Rattle.reader.specs.declared.Seek.{Seek}
+use Rattle.seek.specs.declared.Seek.{Seek}
 use Rattle.frame.specs.Head.{etherTypeOf, pduOf, opcodeOf, offsetOf, startOf}
 use Rattle.judge.specs.Judge.{judgePdu, judge}
-use Rattle.reader.specs.Reader.{isCut, wanted, whole, inFrame, seekOf, answerAt, partOf, answerOf, valueOf}
+use Rattle.seek.specs.Seek.{isCut, wanted, whole, inFrame, seekOf}
+use Rattle.reader.specs.Reader.{answerAt, partOf, answerOf, valueOf}
 use Rattle.judge.proofs.Judged.{pdu-short, pdu-opcode, pdu-offset, pdu-tlvs, frame-short, frame-long, frame-service, frame-oam}
-use Rattle.reader.proofs.Seeks.{seek-bad, seek-tlvs, whole-cut, whole-uncut}
+use Rattle.seek.proofs.Seeks.{seek-bad, seek-tlvs, whole-cut, whole-uncut}
 use Rattle.judge.specs.declared.Head.the-variants as head
 use Rattle.demands.specs.Cases.{OneOf, there}
 use Rattle.demands.specs.Drops.{Handled, ccm, ais}

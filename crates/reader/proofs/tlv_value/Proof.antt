@@ -8,8 +8,9 @@ use lib.ListN.{take, drop}
 use denote.Ref.{now, ptr}
 use borrow.Author.Needs.{needs}
 use Rattle.whole.specs.Lists.{part}
-use Rattle.reader.specs.declared.Seek.{Seek}
-use Rattle.reader.specs.Reader.{Within, partOf, placeAt, valueOf, placeOf}
+use Rattle.seek.specs.declared.Seek.{Seek}
+use Rattle.seek.specs.Seek.{Within}
+use Rattle.reader.specs.Reader.{partOf, placeAt, valueOf, placeOf}
 use Rattle.reader.proofs.tlv_value.Statement.{statement}
 use Rattle.reader.proofs.tlv_value.Tie as tie
 

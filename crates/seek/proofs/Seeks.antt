@@ -14,12 +14,12 @@ use Rattle.reasons.specs.declared.Bad.the-variants.{CutOff}
 use Rattle.judge.specs.declared.Head.{Head}
 use Rattle.judge.specs.declared.Head.the-variants as head
 use Rattle.tlvs.specs.declared.Place.{Place}
-use Rattle.reader.specs.declared.Seek.{Seek}
-use Rattle.reader.specs.declared.Seek.the-variants as seek
+use Rattle.seek.specs.declared.Seek.{Seek}
+use Rattle.seek.specs.declared.Seek.the-variants as seek
 use Rattle.frame.specs.Head.{headLength, pduOf}
 use Rattle.tlvs.specs.Tlvs.{walkFrom}
 use Rattle.judge.specs.Judge.{judge}
-use Rattle.reader.specs.Reader.{isCut, wanted, whole, inFrame, seekAt, seekOf, Within}
+use Rattle.seek.specs.Seek.{isCut, wanted, whole, inFrame, seekAt, seekOf, Within}
 use Rattle.judge.proofs.Judged.{frame-short}
 
 pub whole-cut : (ending w : Place) → isCut ending ≡ true → whole ending w ≡ seek.Bad CutOff

@@ -12,12 +12,12 @@ use Rattle.reasons.specs.declared.Bad.{Bad}
 use Rattle.reasons.specs.declared.Bad.the-variants.{Length, Short, Opcode, Offset}
 use Rattle.judge.specs.declared.Head.{Head}
 use Rattle.judge.specs.declared.Head.the-variants as head
-use Rattle.reader.specs.declared.Seek.{Seek}
-use Rattle.reader.specs.declared.Seek.the-variants as seek
+use Rattle.seek.specs.declared.Seek.{Seek}
+use Rattle.seek.specs.declared.Seek.the-variants as seek
 use Rattle.frame.specs.Head.{isOam, lengthGood, pduOf, opcodeOf, offsetOf, startOf}
 use Rattle.tlvs.specs.Tlvs.{walkFrom}
 use Rattle.judge.specs.Judge.{judge, judgePdu}
-use Rattle.reader.specs.Reader.{whole, inFrame, seekAt, seekOf}
+use Rattle.seek.specs.Seek.{whole, inFrame, seekAt, seekOf}
 
 -- the reasons in order, as the reader finds them, and what the TLVs say behind them
 unfoldable pub chained : {A : Type 0} → (Bad → A) → List ℕ → A → A

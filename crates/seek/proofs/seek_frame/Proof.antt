@@ -1,4 +1,4 @@
--- `reader::seek_frame` meets its contract: what the frame's head says, then whether the walk for the end is cut, then what the walk for the type
+-- `seek::seek_frame` meets its contract: what the frame's head says, then whether the walk for the end is cut, then what the walk for the type
 -- finds, at its place in the frame.
 use native.Mathlib.Omega.{arith}
 use mathlib.Core.Path.{_≡_, sym, ap, _∙_}
@@ -8,13 +8,13 @@ use denote.Ref.{now}
 use lib.ListN.{length, take, drop}
 use borrow.Author.Needs.{needs}
 use Rattle.whole.proofs.Loops.{part-rest}
-use Rattle.reader.specs.declared.Seek.the-variants as seek
+use Rattle.seek.specs.declared.Seek.the-variants as seek
 use Rattle.tlvs.specs.declared.Place.{Place}
 use Rattle.tlvs.specs.Tlvs.{walkFrom, Inside}
-use Rattle.reader.specs.Reader.{isCut, wanted, whole, inFrame, seekOf}
-use Rattle.reader.proofs.Seeks.{whole-cut, whole-uncut, seek-bad, seek-tlvs, long, within}
-use Rattle.reader.proofs.seek_frame.Statement.{statement}
-use Rattle.reader.proofs.seek_frame.Tie as tie
+use Rattle.seek.specs.Seek.{isCut, wanted, whole, inFrame, seekOf}
+use Rattle.seek.proofs.Seeks.{whole-cut, whole-uncut, seek-bad, seek-tlvs, long, within}
+use Rattle.seek.proofs.seek_frame.Statement.{statement}
+use Rattle.seek.proofs.seek_frame.Tie as tie
 
 -- where the TLVs start somewhere, the frame has a PDU
 pdu-there : (c : tie.After-known-told2) → 14 ≤ length (now (c .before .before .before .before .before .args .frame))

@@ -11,7 +11,7 @@ use sessionlayout::SESSION;
 pub fn session_in(from: &[u8; SESSION]) -> LossSession
     ensures { λ r. ⌜ r ≡ sessionAt (now (from .entry)) ⌝ }
 {
-    // a view of an array costs once what the array costs at each call
+    // one view of the array for every read
     let all: &[u8] = from;
     LossSession {
         kept: read_little(all, 0, 1),

@@ -1,0 +1,14 @@
+-- `change::one_more` keeps its promise: each part is found by search.
+use borrow.Author.Needs.{needs}
+use Rattle.change.proofs.one_more.Statement.{statement}
+use Rattle.change.proofs.one_more.Tie as tie
+use Rattle.std.proofs.num.wrapping_add_u32.Reads as wrapping-add-u32-reads
+
+wrapping-add-u32-requires : tie.Need-wrapping-add-u32-requires
+wrapping-add-u32-requires c κs = search needs
+
+returns : tie.Need-returns
+returns c = search needs
+
+pub one-more-spec : {M : Type 1} → statement M
+one-more-spec = tie.close (tie.spec wrapping-add-u32-requires returns)

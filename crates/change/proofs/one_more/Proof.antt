@@ -2,7 +2,6 @@
 use borrow.Author.Needs.{needs}
 use Rattle.change.proofs.one_more.Statement.{statement}
 use Rattle.change.proofs.one_more.Tie as tie
-use Rattle.std.proofs.num.wrapping_add_u32.Reads as wrapping-add-u32-reads
 
 wrapping-add-u32-requires : tie.Need-wrapping-add-u32-requires
 wrapping-add-u32-requires c κs = search needs

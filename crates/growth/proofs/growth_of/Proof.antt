@@ -2,7 +2,6 @@
 use borrow.Author.Needs.{needs}
 use Rattle.growth.proofs.growth_of.Statement.{statement}
 use Rattle.growth.proofs.growth_of.Tie as tie
-use Rattle.std.proofs.num.wrapping_sub_u32.Reads as wrapping-sub-u32-reads
 
 wrapping-sub-u32-requires : tie.Need-wrapping-sub-u32-requires
 wrapping-sub-u32-requires c κs = search needs

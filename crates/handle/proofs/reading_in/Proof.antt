@@ -2,7 +2,6 @@
 use borrow.Author.Needs.{needs}
 use Rattle.handle.proofs.reading_in.Statement.{statement}
 use Rattle.handle.proofs.reading_in.Tie as tie
-use Rattle.octets.proofs.numbers.read_big.Reads as read-big-reads
 
 read-big-requires : tie.Need-read-big-requires
 read-big-requires c κs = search needs

@@ -2,7 +2,6 @@
 use borrow.Author.Needs.{needs}
 use Rattle.linkrecord.proofs.linkbox_read_settings.Statement.{statement}
 use Rattle.linkrecord.proofs.linkbox_read_settings.Tie as tie
-use Rattle.settingsrecord.proofs.read_settings.Reads as read-settings-reads
 
 read-settings-requires : tie.Need-read-settings-requires
 read-settings-requires c κs = search needs

@@ -2,7 +2,6 @@
 use borrow.Author.Needs.{needs}
 use Rattle.linkstate.proofs.linkbox_conditions.Statement.{statement}
 use Rattle.linkstate.proofs.linkbox_conditions.Tie as tie
-use Rattle.conditions.proofs.conditions.Reads as conditions-reads
 
 conditions-requires : tie.Need-conditions-requires
 conditions-requires c κs = search needs

@@ -22,6 +22,12 @@ pub(crate) fn octets(line: &mut [u8], at: usize, octets: &[u8]) -> usize {
     write_hex(line, behind, octets)
 }
 
+// A word in front of the line, and octets in hex behind it.
+pub(crate) fn worded(line: &mut [u8], word: &[u8], shown: &[u8]) -> usize {
+    let behind = write_word(line, 0, word);
+    octets(line, behind, shown)
+}
+
 // The buffer part that a call handed over.
 pub(crate) fn buffer(line: &mut [u8], at: usize, out: &[u8]) -> usize {
     let behind = write_word(line, at, b" |");
@@ -36,10 +42,26 @@ pub(crate) fn length_of(n: usize) -> i64 {
     n as i64
 }
 
+// A refusal.
+pub(crate) fn refused(line: &mut [u8], refusal: u32) -> usize {
+    said(line, b"refused", refusal as i64)
+}
+
+// A refusal or a drop; nothing where there is neither.
+pub(crate) fn reason(line: &mut [u8], refusal: u32, drop: u32) -> usize {
+    if refusal != 0 {
+        return refused(line, refusal);
+    }
+    if drop != 0 {
+        return said(line, b"dropped", drop as i64);
+    }
+    0
+}
+
 // A refusal, or what was written.
 pub(crate) fn sent(line: &mut [u8], refusal: u32, length: usize) -> usize {
     if refusal != 0 {
-        return said(line, b"refused", refusal as i64);
+        return refused(line, refusal);
     }
     said(line, b"sent", length_of(length))
 }
@@ -47,7 +69,7 @@ pub(crate) fn sent(line: &mut [u8], refusal: u32, length: usize) -> usize {
 // A refusal, or a word where there was none.
 pub(crate) fn done(line: &mut [u8], refusal: u32, word: &[u8]) -> usize {
     if refusal != 0 {
-        return said(line, b"refused", refusal as i64);
+        return refused(line, refusal);
     }
     write_word(line, 0, word)
 }

@@ -2,9 +2,11 @@
 use crate::body::rest;
 use crate::body::settings_to_write;
 use crate::line::number;
-use crate::line::octets;
+use crate::line::reason;
+use crate::line::refused;
 use crate::line::said;
 use crate::line::sent;
+use crate::line::worded;
 use calls::MOST;
 use lossline::read_line;
 use lossline::write_line;
@@ -23,31 +25,27 @@ pub(crate) fn ask_tlv(call: &[u8; MOST], n: usize, line: &mut [u8]) -> usize {
     let kind = call[2];
     let frame = rest(call, 3, n);
     let told = reasons::tell(tlv_answer(frame, kind));
-    if told.refusal != 0 {
-        return said(line, b"refused", told.refusal as i64);
-    }
-    if told.drop != 0 {
-        return said(line, b"dropped", told.drop as i64);
+    let behind = reason(line, told.refusal, told.drop);
+    if 0 < behind {
+        return behind;
     }
     if told.value == 0 {
         return write_word(line, 0, b"none");
     }
-    let at = write_word(line, 0, b"value");
-    octets(line, at, tlv_value(frame, kind))
+    worded(line, b"value", tlv_value(frame, kind))
 }
 
 // 268: the settings of a stored record.
 pub(crate) fn run_read_settings(call: &[u8; MOST], n: usize, line: &mut [u8]) -> usize {
     let read = read_settings(rest(call, 2, n));
     if read.refusal != 0 {
-        return said(line, b"refused", read.refusal as i64);
+        return refused(line, read.refusal);
     }
     let set = read.set;
     let names = read.names;
     let ids = read.ids;
     let body = body_of(&set, &names, &ids);
-    let at = write_word(line, 0, b"settings");
-    octets(line, at, &body)
+    worded(line, b"settings", &body)
 }
 
 // 269: a stored record of settings.
@@ -64,7 +62,7 @@ pub(crate) fn run_write_settings(call: &[u8; MOST], out: &mut [u8], line: &mut [
 pub(crate) fn run_read_line(call: &[u8; MOST], n: usize, line: &mut [u8]) -> usize {
     let told = lossrecord::tell(read_line(rest(call, 2, n)));
     if told.refusal != 0 {
-        return said(line, b"refused", told.refusal as i64);
+        return refused(line, told.refusal);
     }
     let first = said(line, b"line", told.intervals as i64);
     let second = number(line, first, told.near);

@@ -3,7 +3,7 @@ use crate::held::Held;
 use crate::held::Ran;
 use crate::held::measured;
 use crate::line::octets;
-use crate::line::said;
+use crate::line::refused;
 use crate::steps::losses;
 use calls::MOST;
 use card::answer;
@@ -37,7 +37,7 @@ pub(crate) fn run_measure(held: Held, call: &[u8; MOST], line: &mut [u8]) -> Ran
     let told = answered.told;
     let session = answered.session;
     if told.refusal != 0 {
-        return measured(held, session, said(line, b"refused", told.refusal as i64));
+        return measured(held, session, refused(line, told.refusal));
     }
     let shown = session_octets(session);
     let at = losses(line, told.near, told.far);

@@ -1,9 +1,9 @@
 // The calls that look at the state and leave it as it is.
 use crate::body::stamp;
 use crate::line::number;
-use crate::line::octets;
-use crate::line::said;
+use crate::line::refused;
 use crate::line::sent;
+use crate::line::worded;
 use calls::MOST;
 use conditions::ConditionFlags;
 use conditions::conditions;
@@ -68,8 +68,7 @@ pub(crate) fn show_state(state: StateArrays, line: &mut [u8]) -> usize {
     let run = state.run;
     let totals = state.totals;
     let shown = state_octets(&set, &names, &ids, &timers, &rdi, &run, &totals);
-    let at = write_word(line, 0, b"state");
-    octets(line, at, &shown)
+    worded(line, b"state", &shown)
 }
 
 // A word where a condition stands.
@@ -140,7 +139,7 @@ pub(crate) fn run_conditions(state: StateArrays, line: &mut [u8]) -> usize {
     let totals = state.totals;
     let told = conditions(&set, &names, &ids, &timers, &rdi, &run, &totals);
     if told.refusal != 0 {
-        return said(line, b"refused", told.refusal as i64);
+        return refused(line, told.refusal);
     }
     let flags = told.conditions;
     let lost = flags.lost;

@@ -8,6 +8,7 @@ use crate::held::stepped;
 use crate::line::done;
 use crate::line::length_of;
 use crate::line::number;
+use crate::line::reason;
 use crate::line::said;
 use crate::line::sent;
 use answers::ALL_WAYS;
@@ -102,11 +103,9 @@ fn delays(line: &mut [u8], twoway: i64, far: i64, near: i64) -> usize {
 
 // A frame's answer.
 fn frame_said(line: &mut [u8], told: FrameTold) -> usize {
-    if told.refusal != 0 {
-        return said(line, b"refused", told.refusal as i64);
-    }
-    if told.drop != 0 {
-        return said(line, b"dropped", told.drop as i64);
+    let behind = reason(line, told.refusal, told.drop);
+    if 0 < behind {
+        return behind;
     }
     frame_done(line, told)
 }

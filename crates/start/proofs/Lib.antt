@@ -1,4 +1,3 @@
-pub mod Zeros
 pub mod Started
 pub mod Starts
 pub mod One

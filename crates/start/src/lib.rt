@@ -7,9 +7,6 @@ ghost use Rattle.whole.specs.Lists.{onFirst};
 ghost use Rattle.settings.specs.Settings.{slots, settingsOf};
 ghost use Rattle.settinganswer.specs.Told.{told};
 ghost use Rattle.start.specs.Start.{answerOf, numbersOf, Started};
-use fill::set_first;
-use fill::zero_words;
-use octets::parts::copy_octets;
 use period::hold_of;
 use period::ticks_of;
 use settinganswer::SettingAnswer;
@@ -17,8 +14,6 @@ use settings::COUNT;
 use settings::PEERS;
 use settings::PERIOD;
 use settings::is_valid;
-use state::FAR;
-use state::NEAR;
 use state::NEXT;
 
 // Sets the running part of a state to zeros.
@@ -30,30 +25,35 @@ fn zero_running(
 )
     ensures { λ _. ⌜ (now (timers .exit) ≡ replicate slots 0) × (now (rdi .exit) ≡ replicate slots 0) × (now (run .exit) ≡ replicate 15 0) × (now (totals .exit) ≡ pos 0 ∷ pos 0 ∷ []) ⌝ }
 {
-    zero_words(timers);
-    zero_words(rdi);
-    zero_words(run);
-    // a view of the array tells its length, and costs nothing
-    let _both: &[i64] = totals;
-    totals[NEAR] = 0;
-    totals[FAR] = 0;
+    *timers = [0; PEERS];
+    *rdi = [0; PEERS];
+    *run = [0; 15];
+    *totals = [0; 2];
 }
 
 // Sets the settings themselves to zeros.
 fn zero_settings(set: &mut [u32; 4], names: &mut [u8; 60], ids: &mut [u32; PEERS])
     ensures { λ _. ⌜ (now (set .exit) ≡ replicate 4 0) × (now (names .exit) ≡ replicate 60 0) × (now (ids .exit) ≡ replicate slots 0) ⌝ }
 {
-    let zeros = [0u8; 60];
-    zero_words(set);
-    copy_octets(names, 0, &zeros);
-    zero_words(ids);
+    *set = [0; 4];
+    *names = [0; 60];
+    *ids = [0; PEERS];
 }
 
 // Sets the used peers' timers to the hold time.
-fn start_timers(timers: &mut [u32; PEERS], count: u32, hold: u32)
+fn start_timers(timers: &mut [u32], count: u32, hold: u32)
     ensures { λ _. ⌜ now (timers .exit) ≡ onFirst (λ x. hold) count (now (timers .entry)) ⌝ }
 {
-    set_first(timers, count as usize, hold);
+    let all = timers.len();
+    let used = count as usize;
+    let mut i: usize = 0;
+    while i < used {
+        if all <= i {
+            return;
+        }
+        timers[i] = hold;
+        i += 1;
+    }
 }
 
 // Takes the settings that lie in the arrays: the state starts with them, or all of it is 0 where they are not valid. It takes no old state: lend

@@ -15,7 +15,6 @@ use Rattle.octets.specs.Numbers.{Octets}
 use Rattle.period.specs.Periods.{holdOf}
 use Rattle.session.specs.Session as Session
 use Rattle.loss.specs.Reading.{afterReading, lossOn}
-use Rattle.loss.specs.declared.LossAnswer.the-variants as loss
 use Rattle.loss.proofs.Laws as Loss
 use Rattle.delay.specs.declared.DelayAnswer.{DelayAnswer}
 use Rattle.stamps.specs.Stamps.{good}
@@ -32,10 +31,8 @@ use Rattle.incoming.specs.Message.{periodCode, judgedOf}
 use Rattle.incoming.proofs.Goods.{fixed}
 use Rattle.ccmfields.specs.Ccm.{ccmIn, megIn}
 use Rattle.reply.specs.Replied.{cutOff}
-use Rattle.answers.specs.declared.Drop.the-variants as drop
 use Rattle.answers.specs.Told.{dropOf}
 use Rattle.signals.specs.declared.Signal.{Signal}
-use Rattle.signals.specs.declared.Signal.the-variants as signal
 use Rattle.signals.specs.Signals.{signalled}
 use Rattle.peers.specs.Peers.{ccmSignal}
 use Rattle.change.specs.declared.Change.the-variants as change

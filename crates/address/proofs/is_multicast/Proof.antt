@@ -1,12 +1,15 @@
 -- `address::is_multicast` meets its contract: six octets, the prefix in front and the level's octet behind it.
 use native.Mathlib.Omega.{arith}
+use Prim.Native.Nat.{ℕ}
 use mathlib.Core.Path.{sym, ap, _∙_}
 use mathlib.Core.Bool.{Bool, _&&_}
+use mathlib.Core.List.{[], _∷_, _++_}
 use denote.Ref.{now}
 use lib.Dec.{eqb}
 use lib.ListN.{getD}
 use lib.Seq.{length-take-le}
 use borrow.Author.Needs.{needs}
+use Rattle.whole.specs.Lists.{same}
 use Rattle.whole.proofs.Lists.{same-last}
 use Rattle.whole.proofs.Loops.{pair-lengths}
 use Rattle.address.specs.Multicast.{prefix, multicastOf}
@@ -37,7 +40,7 @@ returns-2 c = let a = c .before .before .before .before .before .before .before 
     let l = now (a .address) in
     ap (λ (b : Bool). b && eqb (getD l 5 0) (c .last-of .result)) (c .before .before .same-octets .ensures)
     ∙ sym (same-last l prefix (c .last-of .result) (omega arith))
-    ∙ cc (c .last-of .ensures)
+    ∙ ap (λ (x : ℕ). same l (prefix ++ (x ∷ []))) (c .last-of .ensures)
 
 pub is-multicast-spec : {M : Type 1} → statement M
 is-multicast-spec =

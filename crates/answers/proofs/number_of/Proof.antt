@@ -4,8 +4,6 @@ use Rattle.answers.specs.Told.{dropOf}
 use borrow.Author.Needs.{needs}
 use Rattle.answers.proofs.number_of.Statement.{statement}
 use Rattle.answers.proofs.number_of.Tie as tie
-use Rattle.answers.proofs.number_of.Reads as reads
-use Rattle.answers.proofs.number_of.Lts as lts
 
 enum-told : tie.Need-enum-told
 enum-told c = search needs

@@ -7,12 +7,6 @@ use Rattle.answers.specs.Told.{dropped, told}
 use borrow.Author.Needs.{needs}
 use Rattle.answers.proofs.tell.Statement.{statement}
 use Rattle.answers.proofs.tell.Tie as tie
-use Rattle.answers.proofs.tell.Reads as reads
-use Rattle.answers.proofs.tell.Lts as lts
-use Rattle.answers.proofs.delayed.Reads as delayed-reads
-use Rattle.answers.proofs.lost.Reads as lost-reads
-use Rattle.answers.proofs.number_of.Reads as number-of-reads
-use Rattle.answers.proofs.plain.Reads as plain-reads
 
 enum-told : tie.Need-enum-told
 enum-told c = search needs

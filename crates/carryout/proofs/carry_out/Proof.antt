@@ -10,11 +10,6 @@ use Rattle.carryout.specs.CarryOut.{framed, beside, carriedOut}
 use borrow.Author.Needs.{needs}
 use Rattle.carryout.proofs.carry_out.Statement.{statement}
 use Rattle.carryout.proofs.carry_out.Tie as tie
-use Rattle.carryout.proofs.carry_out.Reads as reads
-use Rattle.carryout.proofs.carry_out.Lts as lts
-use Rattle.change.proofs.apply.Reads as apply-reads
-use Rattle.carryout.proofs.delay_answer.Reads as delay-answer-reads
-use Rattle.respond.proofs.respond.Reads as respond-reads
 
 enum-known-decision : tie.Need-enum-known-decision
 enum-known-decision c = search needs

@@ -7,8 +7,6 @@ use Rattle.carryout.specs.CarryOut.{delayAnswer}
 use borrow.Author.Needs.{needs}
 use Rattle.carryout.proofs.delay_answer.Statement.{statement}
 use Rattle.carryout.proofs.delay_answer.Tie as tie
-use Rattle.carryout.proofs.delay_answer.Reads as reads
-use Rattle.carryout.proofs.delay_answer.Lts as lts
 
 enum-told : tie.Need-enum-told
 enum-told c = search needs

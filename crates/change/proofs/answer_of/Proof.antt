@@ -7,8 +7,6 @@ use Rattle.change.specs.Change.{answerOf}
 use borrow.Author.Needs.{needs}
 use Rattle.change.proofs.answer_of.Statement.{statement}
 use Rattle.change.proofs.answer_of.Tie as tie
-use Rattle.change.proofs.answer_of.Reads as reads
-use Rattle.change.proofs.answer_of.Lts as lts
 
 enum-told : tie.Need-enum-told
 enum-told c = search needs

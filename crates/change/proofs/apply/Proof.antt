@@ -13,12 +13,6 @@ use Rattle.change.specs.Change.{ended, applied}
 use borrow.Author.Needs.{needs}
 use Rattle.change.proofs.apply.Statement.{statement}
 use Rattle.change.proofs.apply.Tie as tie
-use Rattle.change.proofs.apply.Reads as reads
-use Rattle.change.proofs.apply.Lts as lts
-use Rattle.change.proofs.one_more.Reads as one-more-reads
-use Rattle.change.proofs.take_counts.Reads as take-counts-reads
-use Rattle.period.proofs.hold_of.Reads as hold-of-reads
-use Rattle.signals.proofs.set_timers.Reads as set-timers-reads
 
 enum-told : tie.Need-enum-told
 enum-told c = search needs

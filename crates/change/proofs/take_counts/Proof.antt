@@ -9,12 +9,6 @@ use Rattle.change.specs.Change.{ended, taken}
 use borrow.Author.Needs.{needs}
 use Rattle.change.proofs.take_counts.Statement.{statement}
 use Rattle.change.proofs.take_counts.Tie as tie
-use Rattle.change.proofs.take_counts.Reads as reads
-use Rattle.change.proofs.take_counts.Lts as lts
-use Rattle.change.proofs.answer_of.Reads as answer-of-reads
-use Rattle.lossstep.proofs.take_reading.Reads as take-reading-reads
-use Rattle.places.proofs.put_session.Reads as put-session-reads
-use Rattle.state.proofs.session_of.Reads as session-of-reads
 
 element-copy-out-t17 : tie.Need-element-copy-out-t17
 element-copy-out-t17 c = search needs

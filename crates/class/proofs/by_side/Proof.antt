@@ -6,8 +6,6 @@ use Rattle.class.specs.Class.{bySide}
 use borrow.Author.Needs.{needs}
 use Rattle.class.proofs.by_side.Statement.{statement}
 use Rattle.class.proofs.by_side.Tie as tie
-use Rattle.class.proofs.by_side.Reads as reads
-use Rattle.class.proofs.by_side.Lts as lts
 
 enum-told : tie.Need-enum-told
 enum-told c = search needs

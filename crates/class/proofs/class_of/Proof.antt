@@ -7,11 +7,6 @@ use Rattle.whole.specs.Tests.{choose}
 use borrow.Author.Needs.{needs}
 use Rattle.class.proofs.class_of.Statement.{statement}
 use Rattle.class.proofs.class_of.Tie as tie
-use Rattle.class.proofs.class_of.Reads as reads
-use Rattle.class.proofs.class_of.Lts as lts
-use Rattle.class.proofs.by_side.Reads as by-side-reads
-use Rattle.class.proofs.is_oam.Reads as is-oam-reads
-use Rattle.header.proofs.level.Reads as level-reads
 
 is-oam-requires : tie.Need-is-oam-requires
 is-oam-requires c κs = search needs

@@ -9,9 +9,6 @@ use lib.ListN.{length}
 use borrow.Author.Needs.{needs}
 use Rattle.class.proofs.is_oam.Statement.{statement}
 use Rattle.class.proofs.is_oam.Tie as tie
-use Rattle.class.proofs.is_oam.Reads as reads
-use Rattle.class.proofs.is_oam.Lts as lts
-use Rattle.octets.proofs.numbers.read_big.Reads as read-big-reads
 
 returns : tie.Need-returns
 returns c = rw (lt-leb _ _ (c .if1 .taken))

@@ -7,10 +7,6 @@ use Rattle.decide.specs.Decide.{belowOf}
 use borrow.Author.Needs.{needs}
 use Rattle.decide.proofs.below.Statement.{statement}
 use Rattle.decide.proofs.below.Tie as tie
-use Rattle.decide.proofs.below.Reads as reads
-use Rattle.decide.proofs.below.Lts as lts
-use Rattle.decide.proofs.for_us.Reads as for-us-reads
-use Rattle.incoming.proofs.good_opcode.Reads as good-opcode-reads
 
 good-opcode-requires : tie.Need-good-opcode-requires
 good-opcode-requires c κs = search needs

@@ -4,8 +4,6 @@ use Rattle.decide.specs.Decide.{countOf}
 use borrow.Author.Needs.{needs}
 use Rattle.decide.proofs.count.Statement.{statement}
 use Rattle.decide.proofs.count.Tie as tie
-use Rattle.decide.proofs.count.Reads as reads
-use Rattle.decide.proofs.count.Lts as lts
 
 enum-told : tie.Need-enum-told
 enum-told c = search needs

@@ -17,12 +17,6 @@ use Rattle.decide.specs.Decide.{byClass, decideOf}
 use borrow.Author.Needs.{needs}
 use Rattle.decide.proofs.decide.Statement.{statement}
 use Rattle.decide.proofs.decide.Tie as tie
-use Rattle.decide.proofs.decide.Reads as reads
-use Rattle.decide.proofs.decide.Lts as lts
-use Rattle.class.proofs.class_of.Reads as class-of-reads
-use Rattle.decide.proofs.below.Reads as below-reads
-use Rattle.decide.proofs.count.Reads as count-reads
-use Rattle.decide.proofs.own_level.Reads as own-level-reads
 
 by-class : (t : Settings) (side : Side) (f : List ℕ) (receive : Stamp) (k : Class) → classOf (t .level) side f ≡ k → decideOf t side f receive ≡ byClass t side f receive k
 unfolding decideOf

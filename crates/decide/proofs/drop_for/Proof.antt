@@ -4,8 +4,6 @@ use Rattle.decide.specs.Decide.{dropFor}
 use borrow.Author.Needs.{needs}
 use Rattle.decide.proofs.drop_for.Statement.{statement}
 use Rattle.decide.proofs.drop_for.Tie as tie
-use Rattle.decide.proofs.drop_for.Reads as reads
-use Rattle.decide.proofs.drop_for.Lts as lts
 
 enum-told : tie.Need-enum-told
 enum-told c = search needs

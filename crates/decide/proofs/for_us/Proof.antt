@@ -18,13 +18,6 @@ use Rattle.decide.specs.Decide.{isOurs}
 use borrow.Author.Needs.{needs}
 use Rattle.decide.proofs.for_us.Statement.{statement}
 use Rattle.decide.proofs.for_us.Tie as tie
-use Rattle.decide.proofs.for_us.Reads as reads
-use Rattle.decide.proofs.for_us.Lts as lts
-use Rattle.frame.proofs.head.pdu_of.Reads as pdu-of-reads
-use Rattle.parties.proofs.destination.Reads as destination-reads
-use Rattle.header.proofs.level.Reads as level-reads
-use Rattle.parties.proofs.source.Reads as source-reads
-use Rattle.ours.proofs.is_for_us.Reads as is-for-us-reads
 
 -- what was found is what the definition looks at
 ours-is : (names f p to from : List ℕ) (l : ℕ) → p ≡ pduOf f → to ≡ inHead (destinationOf f) f → from ≡ inHead (sourceOf f) f → l ≡ levelOf (pduOf f) → 14 ≤ length f

@@ -16,15 +16,6 @@ use Rattle.decide.proofs.Own.{handled-is, not-handled, found-bad, found
 use borrow.Author.Needs.{needs}
 use Rattle.decide.proofs.own_level.Statement.{statement}
 use Rattle.decide.proofs.own_level.Tie as tie
-use Rattle.decide.proofs.own_level.Reads as reads
-use Rattle.decide.proofs.own_level.Lts as lts
-use Rattle.decide.proofs.drop_for.Reads as drop-for-reads
-use Rattle.decide.proofs.for_us.Reads as for-us-reads
-use Rattle.handle.proofs.handle_message.Reads as handle-message-reads
-use Rattle.frame.proofs.head.pdu_of.Reads as pdu-of-reads
-use Rattle.opcodes.proofs.rule_of.Reads as rule-of-reads
-use Rattle.opcodes.proofs.is_handled.Reads as is-handled-reads
-use Rattle.incoming.proofs.message_answer.Reads as message-answer-reads
 
 pdu-of-requires : tie.Need-pdu-of-requires
 pdu-of-requires c κs = search needs

@@ -3,10 +3,6 @@ use mathlib.Core.Path.{_≡_, _∙_}
 use borrow.Author.Needs.{needs}
 use Rattle.handle.proofs.delays_in.Statement.{statement}
 use Rattle.handle.proofs.delays_in.Tie as tie
-use Rattle.handle.proofs.delays_in.Reads as reads
-use Rattle.handle.proofs.delays_in.Lts as lts
-use Rattle.handle.proofs.stamp_at.Reads as stamp-at-reads
-use Rattle.delay.proofs.measure_delay.Reads as measure-delay-reads
 
 stamp-at-requires : tie.Need-stamp-at-requires
 stamp-at-requires c κs = search needs

@@ -12,12 +12,6 @@ use Rattle.handle.specs.Handle.{roomFor, handleOf}
 use borrow.Author.Needs.{needs}
 use Rattle.handle.proofs.handle.Statement.{statement}
 use Rattle.handle.proofs.handle.Tie as tie
-use Rattle.handle.proofs.handle.Reads as reads
-use Rattle.handle.proofs.handle.Lts as lts
-use Rattle.bits.proofs.period_code_of.Reads as period-code-of-reads
-use Rattle.peers.proofs.ccm_signal.Reads as ccm-signal-reads
-use Rattle.handle.proofs.delays_in.Reads as delays-in-reads
-use Rattle.handle.proofs.reading_in.Reads as reading-in-reads
 
 enum-told : tie.Need-enum-told
 enum-told c = search needs

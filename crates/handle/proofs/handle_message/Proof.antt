@@ -10,8 +10,6 @@ use Rattle.handle.proofs.Handled.{handled-whole}
 use borrow.Author.Needs.{needs}
 use Rattle.handle.proofs.handle_message.Statement.{statement}
 use Rattle.handle.proofs.handle_message.Tie as tie
-use Rattle.handle.proofs.handle.Reads as handle-reads
-use Rattle.handle.proofs.room_for.Reads as room-for-reads
 
 room-for-requires : tie.Need-room-for-requires
 room-for-requires c κs = search needs

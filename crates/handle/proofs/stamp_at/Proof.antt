@@ -1,11 +1,14 @@
 -- Seconds, then nanoseconds. Assumes nothing.
-use mathlib.Core.Path.{_≡_}
+use Prim.Native.Nat.{ℕ, _+_}
+use mathlib.Core.List.{List}
+use mathlib.Core.Path.{_≡_, refl}
+use denote.Ref.{now}
 use borrow.Author.Needs.{needs}
+use Rattle.stamps.specs.declared.Stamp.{Stamp}
+use Rattle.frame.specs.Head.{word}
+use Rattle.measures.specs.Measures.{stamp}
 use Rattle.handle.proofs.stamp_at.Statement.{statement}
 use Rattle.handle.proofs.stamp_at.Tie as tie
-use Rattle.handle.proofs.stamp_at.Reads as reads
-use Rattle.handle.proofs.stamp_at.Lts as lts
-use Rattle.octets.proofs.numbers.read_big.Reads as read-big-reads
 
 read-big-requires : tie.Need-read-big-requires
 read-big-requires c κs = search needs
@@ -16,8 +19,12 @@ add-read-big c = search needs
 read-big-requires-2 : tie.Need-read-big-requires-2
 read-big-requires-2 c κs = search needs
 
+-- two words that were read are the stamp
+made : (p : List ℕ) (at s n : ℕ) → s ≡ word at p → n ≡ word (at + 4) p → record { seconds = s; nanoseconds = n } ≡ stamp at p
+made p at s n es en = rw (es, en) refl
+
 returns : tie.Need-returns
-returns c = cc (c .before .read-big .ensures .is, c .read-big2 .ensures .is)
+returns c = made (now (c .before .before .before .args .pdu)) (c .before .before .before .args .at) _ _ (c .before .read-big .ensures .is) (c .read-big2 .ensures .is)
 
 pub stamp-at-spec : {M : Type 1} → statement M
 stamp-at-spec = tie.close (tie.spec read-big-requires add-read-big read-big-requires-2 returns)

@@ -4,8 +4,6 @@ use Rattle.kinds.specs.declared.MessageTold.{MessageTold}
 use borrow.Author.Needs.{needs}
 use Rattle.incoming.proofs.good_opcode.Statement.{statement}
 use Rattle.incoming.proofs.good_opcode.Tie as tie
-use Rattle.incoming.proofs.message_answer.Reads as message-answer-reads
-use Rattle.kinds.proofs.tell.Reads as tell-reads
 
 message-answer-requires : tie.Need-message-answer-requires
 message-answer-requires c κs = search needs

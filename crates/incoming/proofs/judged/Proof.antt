@@ -10,9 +10,6 @@ use Rattle.incoming.specs.Message.{periodCode, codeGood, judgedOf}
 use borrow.Author.Needs.{needs}
 use Rattle.incoming.proofs.judged.Statement.{statement}
 use Rattle.incoming.proofs.judged.Tie as tie
-use Rattle.bits.proofs.period_code_of.Reads as period-code-of-reads
-use Rattle.opcodes.proofs.rule_of.Reads as rule-of-reads
-use Rattle.incoming.proofs.code_good.Reads as code-good-reads
 
 -- the rule, the code and the test that were found are the definition's
 judged-is : (op flags : ℕ) (r : Rule) (k : ℕ) (b : Bool) → r ≡ ruleOf op → k ≡ periodCode flags → b ≡ codeGood (r .handler) k

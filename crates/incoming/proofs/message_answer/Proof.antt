@@ -13,9 +13,6 @@ use Rattle.incoming.proofs.Numbers.{numbered}
 use borrow.Author.Needs.{needs}
 use Rattle.incoming.proofs.message_answer.Statement.{statement}
 use Rattle.incoming.proofs.message_answer.Tie as tie
-use Rattle.frame.proofs.head.pdu_of.Reads as pdu-of-reads
-use Rattle.reader.proofs.tlv_answer.Reads as tlv-answer-reads
-use Rattle.incoming.proofs.judged.Reads as judged-reads
 
 pdu-of-requires : tie.Need-pdu-of-requires
 pdu-of-requires c κs = search needs

@@ -6,8 +6,6 @@ use Rattle.kinds.specs.Told.{numbers, told}
 use borrow.Author.Needs.{needs}
 use Rattle.kinds.proofs.tell.Statement.{statement}
 use Rattle.kinds.proofs.tell.Tie as tie
-use Rattle.reasons.proofs.tell.Reads as tell-reads
-use Rattle.kinds.proofs.opcode_for.Reads as opcode-for-reads
 
 enum-known-answer : tie.Need-enum-known-answer
 enum-known-answer c = search needs

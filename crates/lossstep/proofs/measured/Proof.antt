@@ -1,9 +1,17 @@
 -- `lossstep::measured` meets its contract: both losses, and both totals carried on, which the bound of a well-formed session keeps in 64 bits.
+use Prim.Native.Nat.{_+_}
+use mathlib.Core.Path.{_≡_, refl, ap, _∙_}
+use lib.IntN.{ℤ, _+ℤ_}
 use mir.Syntax.{w64}
-use mir.Val.{SFits}
+use mir.Val.{SFits, toZ, ofZ}
 use borrow.Author.Needs.{needs}
 use Rattle.whole.proofs.Stored.{back}
+use Rattle.session.specs.declared.LossSession.{LossSession}
+use Rattle.session.specs.declared.Readings.{Readings}
 use Rattle.session.specs.Session.{near, far}
+use Rattle.loss.specs.declared.Updated.{Updated}
+use Rattle.loss.specs.declared.LossAnswer.the-variants.{Measured}
+use Rattle.loss.specs.Reading.{lossOn, measuredOf}
 use Rattle.lossstep.proofs.Totals.{plus-fits}
 use Rattle.lossstep.proofs.measured.Statement.{statement}
 use Rattle.lossstep.proofs.measured.Tie as tie
@@ -39,20 +47,20 @@ plus-requires-2 c κs = let d = c .before .before .before in
 add-after : tie.Need-add-after
 add-after c = search needs
 
+-- both losses and both totals make the outcome of an interval
+made : (s : LossSession) (r : Readings) (a b n f : ℤ) → a ≡ lossOn near (s .last) r → b ≡ lossOn far (s .last) r → n ≡ s .near +ℤ a → f ≡ s .far +ℤ b
+    → record { answer = Measured a b; session = record { kept = s .kept; intervals = s .intervals + 1; last = r; near = n; far = f } } ≡ measuredOf s r
+made s r a b n f ea eb en ef = rw (en, ef, ea, eb) refl
+
 returns : tie.Need-returns
 returns c = let p = c .before .before .before in
     let d = p .before .before in
     let o = d .before .before .before in
-    cc (
-      back (o .args .s .near) (near-fits o),
-      back (o .args .s .far) (far-fits o),
-      back (d .before .loss-between .result) (near-loss-fits (d .before)),
-      back (d .loss-between2 .result) (far-loss-fits d),
-      d .before .loss-between .ensures .0,
-      d .loss-between2 .ensures .0,
-      p .plus .ensures,
-      c .before .plus2 .ensures,
-    )
+    let nearly = back (d .before .loss-between .result) (near-loss-fits (d .before)) in
+    let farther = back (d .loss-between2 .result) (far-loss-fits d) in
+    made (o .args .s) (o .args .r) _ _ _ _ (nearly ∙ d .before .loss-between .ensures .0) (farther ∙ d .loss-between2 .ensures .0)
+    (p .plus .ensures ∙ ap (λ (z : ℤ). z +ℤ toZ w64 (ofZ w64 (d .before .loss-between .result))) (back (o .args .s .near) (near-fits o)))
+    (c .before .plus2 .ensures ∙ ap (λ (z : ℤ). z +ℤ toZ w64 (ofZ w64 (d .loss-between2 .result))) (back (o .args .s .far) (far-fits o)))
 
 pub measured-spec : {M : Type 1} → statement M
 measured-spec =

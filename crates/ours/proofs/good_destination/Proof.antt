@@ -3,10 +3,6 @@ use mathlib.Core.Path.{_≡_, refl, sym, ap, _∙_}
 use borrow.Author.Needs.{needs}
 use Rattle.ours.proofs.good_destination.Statement.{statement}
 use Rattle.ours.proofs.good_destination.Tie as tie
-use Rattle.ours.proofs.good_destination.Reads as reads
-use Rattle.ours.proofs.good_destination.Lts as lts
-use Rattle.address.proofs.is_multicast.Reads as is-multicast-reads
-use Rattle.same.proofs.same_octets.Reads as same-octets-reads
 
 same-octets-requires : tie.Need-same-octets-requires
 same-octets-requires c κs = search needs

@@ -3,10 +3,6 @@ use mathlib.Core.Path.{_≡_, refl, sym, ap, _∙_}
 use borrow.Author.Needs.{needs}
 use Rattle.ours.proofs.good_source.Statement.{statement}
 use Rattle.ours.proofs.good_source.Tie as tie
-use Rattle.ours.proofs.good_source.Reads as reads
-use Rattle.ours.proofs.good_source.Lts as lts
-use Rattle.same.proofs.same_octets.Reads as same-octets-reads
-use Rattle.ours.proofs.has_group_bit.Reads as has-group-bit-reads
 
 same-octets-requires : tie.Need-same-octets-requires
 same-octets-requires c κs = search needs

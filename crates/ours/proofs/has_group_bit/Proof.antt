@@ -10,8 +10,6 @@ use Rattle.ours.specs.Ours.{hasGroupBit}
 use borrow.Author.Needs.{needs}
 use Rattle.ours.proofs.has_group_bit.Statement.{statement}
 use Rattle.ours.proofs.has_group_bit.Tie as tie
-use Rattle.ours.proofs.has_group_bit.Reads as reads
-use Rattle.ours.proofs.has_group_bit.Lts as lts
 
 none : (l : List ℕ) → length l ≡ 0 → hasGroupBit l ≡ false
 none [] h = refl

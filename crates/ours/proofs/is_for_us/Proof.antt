@@ -4,11 +4,6 @@ use Rattle.ours.specs.Ours.{forUs}
 use borrow.Author.Needs.{needs}
 use Rattle.ours.proofs.is_for_us.Statement.{statement}
 use Rattle.ours.proofs.is_for_us.Tie as tie
-use Rattle.ours.proofs.is_for_us.Reads as reads
-use Rattle.ours.proofs.is_for_us.Lts as lts
-use Rattle.opcodes.proofs.rule_of.Reads as rule-of-reads
-use Rattle.ours.proofs.good_destination.Reads as good-destination-reads
-use Rattle.ours.proofs.good_source.Reads as good-source-reads
 
 rule-of-requires : tie.Need-rule-of-requires
 rule-of-requires c κs = search needs

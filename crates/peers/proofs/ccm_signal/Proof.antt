@@ -17,15 +17,6 @@ use Rattle.peers.proofs.Cases.{mismerge, unknown, other-period, peer}
 use borrow.Author.Needs.{needs}
 use Rattle.peers.proofs.ccm_signal.Statement.{statement}
 use Rattle.peers.proofs.ccm_signal.Tie as tie
-use Rattle.peers.proofs.ccm_signal.Reads as reads
-use Rattle.peers.proofs.ccm_signal.Lts as lts
-use Rattle.bits.proofs.mep_id_of.Reads as mep-id-of-reads
-use Rattle.bits.proofs.period_code_of.Reads as period-code-of-reads
-use Rattle.bits.proofs.rdi_of.Reads as rdi-of-reads
-use Rattle.peers.proofs.front.Reads as front-reads
-use Rattle.octets.proofs.numbers.read_big.Reads as read-big-reads
-use Rattle.same.proofs.same_octets.Reads as same-octets-reads
-use Rattle.words.proofs.place_of.Reads as place-of-reads
 
 -- our MEG ID stands behind the two addresses
 meg-found : (names p : List ℕ) (found : Bool) → found ≡ same (take 48 (drop 10 p)) (take 48 (drop 12 names)) → found ≡ same (take 48 (drop 10 p)) (part 12 48 names)

@@ -9,8 +9,6 @@ use lib.Seq.{length-take-le, take-all}
 use borrow.Author.Needs.{needs}
 use Rattle.peers.proofs.front.Statement.{statement}
 use Rattle.peers.proofs.front.Tie as tie
-use Rattle.peers.proofs.front.Reads as reads
-use Rattle.peers.proofs.front.Lts as lts
 
 returns : tie.Need-returns
 returns c = let a = c .before .args in

@@ -7,8 +7,6 @@ use Rattle.places.proofs.Stores as Stores
 use borrow.Author.Needs.{needs}
 use Rattle.places.proofs.put_session.Statement.{statement}
 use Rattle.places.proofs.put_session.Tie as tie
-use Rattle.places.proofs.put_session.Reads as reads
-use Rattle.places.proofs.put_session.Lts as lts
 
 element-write-run : tie.Need-element-write-run
 element-write-run c = search needs

@@ -13,12 +13,6 @@ use Rattle.receive.proofs.Stages.{outside, refused-2, refused-1, refuse
 use borrow.Author.Needs.{needs}
 use Rattle.receive.proofs.on_frame.Statement.{statement}
 use Rattle.receive.proofs.on_frame.Tie as tie
-use Rattle.receive.proofs.on_frame.Reads as reads
-use Rattle.receive.proofs.on_frame.Lts as lts
-use Rattle.decide.proofs.decide.Reads as decide-reads
-use Rattle.stamps.proofs.good_stamp.Reads as good-stamp-reads
-use Rattle.carryout.proofs.carry_out.Reads as carry-out-reads
-use Rattle.wellformed.proofs.is_well_formed.Reads as is-well-formed-reads
 
 is-well-formed-requires : tie.Need-is-well-formed-requires
 is-well-formed-requires c κs = search needs

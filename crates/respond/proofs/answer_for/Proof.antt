@@ -4,8 +4,6 @@ use Rattle.respond.specs.Respond.{answerFor}
 use borrow.Author.Needs.{needs}
 use Rattle.respond.proofs.answer_for.Statement.{statement}
 use Rattle.respond.proofs.answer_for.Tie as tie
-use Rattle.respond.proofs.answer_for.Reads as reads
-use Rattle.respond.proofs.answer_for.Lts as lts
 
 enum-told : tie.Need-enum-told
 enum-told c = search needs

@@ -9,8 +9,6 @@ use Rattle.whole.specs.Lists.{part}
 use borrow.Author.Needs.{needs}
 use Rattle.respond.proofs.own_address.Statement.{statement}
 use Rattle.respond.proofs.own_address.Tie as tie
-use Rattle.respond.proofs.own_address.Reads as reads
-use Rattle.respond.proofs.own_address.Lts as lts
 
 first-six : (l : List ℕ) → 6 ≤ length l → (getD l 0 0 ∷ getD l 1 0 ∷ getD l 2 0 ∷ getD l 3 0 ∷ getD l 4 0 ∷ getD l 5 0 ∷ []) ≡ part 0 6 l
 unfolding part

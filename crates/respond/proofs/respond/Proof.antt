@@ -10,13 +10,6 @@ use Rattle.respond.specs.Respond.{answerFor, respondedOf, leftAfter}
 use borrow.Author.Needs.{needs}
 use Rattle.respond.proofs.respond.Statement.{statement}
 use Rattle.respond.proofs.respond.Tie as tie
-use Rattle.respond.proofs.respond.Reads as reads
-use Rattle.respond.proofs.respond.Lts as lts
-use Rattle.reply.proofs.write_dmr.Reads as write-dmr-reads
-use Rattle.reply.proofs.write_lbr.Reads as write-lbr-reads
-use Rattle.reply.proofs.write_lmr.Reads as write-lmr-reads
-use Rattle.respond.proofs.answer_for.Reads as answer-for-reads
-use Rattle.respond.proofs.own_address.Reads as own-address-reads
 
 own-address-requires : tie.Need-own-address-requires
 own-address-requires c κs = search needs

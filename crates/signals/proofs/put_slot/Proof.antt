@@ -6,8 +6,6 @@ use lib.Seq.{set-out}
 use borrow.Author.Needs.{needs}
 use Rattle.signals.proofs.put_slot.Statement.{statement}
 use Rattle.signals.proofs.put_slot.Tie as tie
-use Rattle.signals.proofs.put_slot.Reads as reads
-use Rattle.signals.proofs.put_slot.Lts as lts
 
 returns : tie.Need-returns
 returns c = let a = c .before .args in

@@ -15,10 +15,6 @@ use Rattle.signals.specs.Signals.{signalled}
 use borrow.Author.Needs.{needs}
 use Rattle.signals.proofs.set_timers.Statement.{statement}
 use Rattle.signals.proofs.set_timers.Tie as tie
-use Rattle.signals.proofs.set_timers.Reads as reads
-use Rattle.signals.proofs.set_timers.Lts as lts
-use Rattle.period.proofs.hold_of.Reads as hold-of-reads
-use Rattle.signals.proofs.put_slot.Reads as put-slot-reads
 
 -- a peer's two words stored are the peer heard
 stored-peer : (st names ids run : List ℕ) (totals : List ℤ) (timers rdi timers′ rdi′ : List ℕ) (slot hold flag : ℕ)

@@ -40,7 +40,7 @@ fn zero_settings(set: &mut [u32; 4], names: &mut [u8; 60], ids: &mut [u32; PEERS
     *ids = [0; PEERS];
 }
 
-// Sets the used peers' timers to the hold time.
+// Sets the used peers' timers to the hold time; all of them where the count is larger, which no valid setting's is.
 fn start_timers(timers: &mut [u32], count: u32, hold: u32)
     ensures { λ _. ⌜ now (timers .exit) ≡ onFirst (λ x. hold) count (now (timers .entry)) ⌝ }
 {

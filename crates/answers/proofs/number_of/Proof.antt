@@ -1,5 +1,5 @@
 -- Each arm is its line of `dropOf`. Assumes nothing.
-use mathlib.Core.Path.{_≡_, sym, ap, _∙_}
+use mathlib.Core.Path.{sym, ap}
 use Rattle.answers.specs.Told.{dropOf}
 use borrow.Author.Needs.{needs}
 use Rattle.answers.proofs.number_of.Statement.{statement}

@@ -1,5 +1,5 @@
 -- The session is read, updated by the rule, and put back. Assumes nothing.
-use mathlib.Core.Path.{_≡_, sym, ap, ap₂, _∙_}
+use mathlib.Core.Path.{ap, ap₂, _∙_}
 use denote.Ref.{now}
 use Rattle.session.specs.declared.LossSession.{LossSession}
 use Rattle.session.specs.Session.{readings}

@@ -1,7 +1,5 @@
 -- By the side, then by the level. Assumes nothing.
-use mathlib.Core.Path.{_≡_, refl, sym, ap, _∙_}
-use native.Mathlib.Omega.{arith}
-use borrow.Author.Tests.{lt-ltb, le-ltb, lt-leb, le-leb, not-false, not-true}
+use borrow.Author.Tests.{lt-ltb, le-ltb}
 use Rattle.class.specs.Class.{bySide}
 use borrow.Author.Needs.{needs}
 use Rattle.class.proofs.by_side.Statement.{statement}

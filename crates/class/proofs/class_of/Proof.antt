@@ -1,7 +1,6 @@
 -- Test by test, as the definition has them. Assumes nothing.
-use mathlib.Core.Path.{_≡_, refl, sym, ap, _∙_}
-use native.Mathlib.Omega.{arith}
-use borrow.Author.Tests.{lt-ltb, le-ltb, lt-leb, le-leb, not-false, not-true}
+use mathlib.Core.Path.{sym, _∙_}
+use borrow.Author.Tests.{lt-ltb, le-ltb, not-false, not-true}
 use Rattle.class.specs.Class.{classOf}
 use Rattle.whole.specs.Tests.{choose}
 use borrow.Author.Needs.{needs}

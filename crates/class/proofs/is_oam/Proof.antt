@@ -1,11 +1,8 @@
 -- The EtherType is read where there is one. Assumes nothing.
 use Prim.Native.Nat.{ℕ}
 use lib.Dec.{eqb}
-use mathlib.Core.Path.{_≡_, refl, sym, ap, _∙_}
-use native.Mathlib.Omega.{arith}
-use borrow.Author.Tests.{lt-ltb, le-ltb, lt-leb, le-leb, not-false, not-true}
-use denote.Ref.{now}
-use lib.ListN.{length}
+use mathlib.Core.Path.{ap}
+use borrow.Author.Tests.{lt-leb, le-leb}
 use borrow.Author.Needs.{needs}
 use Rattle.class.proofs.is_oam.Statement.{statement}
 use Rattle.class.proofs.is_oam.Tie as tie

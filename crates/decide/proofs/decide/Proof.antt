@@ -1,9 +1,6 @@
 -- Each class has its line of `byClass`. Assumes nothing.
-use mathlib.Core.Path.{_≡_, refl, sym, ap, _∙_}
-use native.Mathlib.Omega.{arith}
+use mathlib.Core.Path.{_≡_, sym, ap, _∙_}
 use denote.Ref.{now}
-use lib.ListN.{length}
-use borrow.Author.Tests.{lt-ltb, le-ltb, lt-leb, le-leb, eq-eqb, ne-eqb, not-false, not-true}
 use mathlib.Core.List.{List}
 use Rattle.settings.specs.Settings.{Settings, settingsOf}
 use Rattle.stamps.specs.declared.Stamp.{Stamp}

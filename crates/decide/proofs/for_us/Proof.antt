@@ -1,14 +1,13 @@
 -- The addresses, the opcode and the level stand in the frame's head. Assumes nothing.
-use mathlib.Core.Path.{_≡_, refl, sym, ap, _∙_}
+use mathlib.Core.Path.{_≡_, sym, _∙_}
 use native.Mathlib.Omega.{arith}
 use denote.Ref.{now}
 use lib.ListN.{length}
-use borrow.Author.Tests.{lt-ltb, le-ltb, lt-leb, le-leb, eq-eqb, ne-eqb, not-false, not-true}
+use borrow.Author.Tests.{le-ltb}
 use Prim.Native.Nat.{_≤_, ℕ}
 use mathlib.Core.List.{List}
 use lib.ListN.{take, drop, length-drop}
 use lib.Seq.{length-take-le}
-use mathlib.Core.Bool.{Bool, cond}
 use Rattle.whole.specs.Lists.{part}
 use Rattle.frame.specs.Head.{destinationOf, sourceOf, pduOf, levelOf, opcodeOf}
 use Rattle.parties.specs.Addresses.{inHead}

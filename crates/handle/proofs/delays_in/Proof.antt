@@ -1,5 +1,4 @@
 -- The three stamps, and the rule behind them. Assumes nothing.
-use mathlib.Core.Path.{_≡_, _∙_}
 use borrow.Author.Needs.{needs}
 use Rattle.handle.proofs.delays_in.Statement.{statement}
 use Rattle.handle.proofs.delays_in.Tie as tie

@@ -4,7 +4,6 @@ use mathlib.Core.List.{List}
 use mathlib.Core.Path.{_≡_, refl}
 use denote.Ref.{now}
 use borrow.Author.Needs.{needs}
-use Rattle.stamps.specs.declared.Stamp.{Stamp}
 use Rattle.frame.specs.Head.{word}
 use Rattle.measures.specs.Measures.{stamp}
 use Rattle.handle.proofs.stamp_at.Statement.{statement}

@@ -4,7 +4,6 @@ use Prim.Native.Nat.{ℕ}
 use mathlib.Core.Path.{_≡_, sym, ap, _∙_}
 use Rattle.opcodes.specs.declared.Rule.{Rule}
 use Rattle.opcodes.specs.Opcodes.{ruleOf}
-use Rattle.kinds.specs.declared.MessageAnswer.{MessageAnswer}
 use Rattle.kinds.specs.declared.MessageAnswer.the-variants.{Message, PeriodCode}
 use Rattle.incoming.specs.Message.{periodCode, codeGood, judgedOf}
 use borrow.Author.Needs.{needs}

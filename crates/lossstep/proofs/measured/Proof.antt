@@ -9,7 +9,6 @@ use Rattle.whole.proofs.Stored.{back}
 use Rattle.session.specs.declared.LossSession.{LossSession}
 use Rattle.session.specs.declared.Readings.{Readings}
 use Rattle.session.specs.Session.{near, far}
-use Rattle.loss.specs.declared.Updated.{Updated}
 use Rattle.loss.specs.declared.LossAnswer.the-variants.{Measured}
 use Rattle.loss.specs.Reading.{lossOn, measuredOf}
 use Rattle.lossstep.proofs.Totals.{plus-fits}

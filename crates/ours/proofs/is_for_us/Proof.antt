@@ -1,5 +1,4 @@
 -- The rule of the opcode, then both addresses. Assumes nothing.
-use mathlib.Core.Path.{_≡_, refl, sym, ap, _∙_}
 use Rattle.ours.specs.Ours.{forUs}
 use borrow.Author.Needs.{needs}
 use Rattle.ours.proofs.is_for_us.Statement.{statement}

@@ -1,9 +1,8 @@
 -- The used slots in front, or all. Assumes nothing.
-use mathlib.Core.Path.{_≡_, refl, sym, ap, _∙_}
+use mathlib.Core.Path.{sym}
 use native.Mathlib.Omega.{arith}
 use denote.Ref.{now}
 use lib.ListN.{length}
-use borrow.Author.Tests.{lt-ltb, le-ltb, lt-leb, le-leb, eq-eqb, ne-eqb, not-false, not-true}
 use Prim.Native.Nat.{_≤_}
 use lib.Seq.{length-take-le, take-all}
 use borrow.Author.Needs.{needs}

@@ -1,8 +1,6 @@
 -- Three refusals, then what is decided is carried out; each a law of `frameOf` (Stages). Assumes nothing.
-use Prim.Native.Nat.{ℕ}
 use mathlib.Core.Path.{_≡_, sym, ap, ap₂, _∙_}
 use mathlib.Core.Bool.{Bool, _&&_}
-use mathlib.Core.List.{List}
 use denote.Ref.{now}
 use lib.ListN.{length}
 use borrow.Author.Tests.{not-false, not-true}

@@ -1,7 +1,6 @@
 -- A slot that is not there is not set. Assumes nothing.
 use mathlib.Core.Path.{sym}
 use denote.Ref.{now}
-use native.Mathlib.Omega.{arith}
 use lib.Seq.{set-out}
 use borrow.Author.Needs.{needs}
 use Rattle.signals.proofs.put_slot.Statement.{statement}

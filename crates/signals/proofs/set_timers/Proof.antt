@@ -5,8 +5,7 @@ use mathlib.Core.List.{List}
 use denote.Ref.{now}
 use lib.IntN.{ℤ}
 use lib.ListN.{length, set, length-set}
-use Rattle.period.specs.Periods.{holdOf}
-use Rattle.state.specs.State.{State, viewOf}
+use Rattle.state.specs.State.{viewOf}
 use Rattle.state.specs.Changed.{put, heard}
 use Rattle.state.specs.Changed as word
 use Rattle.places.proofs.Stores as Stores

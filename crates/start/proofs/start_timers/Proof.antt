@@ -1,10 +1,10 @@
 -- `start::start_timers` meets its contract. The invariant: the first i timers are the hold time, the others as they were.
-use Prim.Native.Nat.{ℕ, _+_, _-_, _≤_}
-use mathlib.Core.List.{List, map}
+use Prim.Native.Nat.{ℕ, _-_, _≤_}
+use mathlib.Core.List.{List}
 use mathlib.Core.Path.{_≡_, refl, sym, ap, _∙_}
 use native.Mathlib.Omega.{arith}
 use denote.Ref.{now}
-use lib.ListN.{length, getD, set}
+use lib.ListN.{length, set}
 use Rattle.whole.specs.Lists.{onFirst}
 use Rattle.whole.proofs.Loops.{onFirst-none, onFirst-next, onFirst-all}
 use borrow.Author.Needs.{needs}

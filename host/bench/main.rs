@@ -6,7 +6,8 @@ mod twin;
 
 #[cfg(tlv)]
 use ffi::TlvTold;
-use ffi::{Arrays as State, ConditionsTold, FrameTold, LineTold, LossLine, LossSession, LossTold, PEERS, Readings, SettingsRead, Stamp, Written};
+use ffi::{Arrays as State, ConditionsTold, FrameTold, LineTold, LossLine, LossSession, LossTold, NewBox, PEERS, Readings, SettingArrays, SettingsRead};
+use ffi::{Stamp, Written};
 use std::hint::black_box;
 use std::time::Instant;
 use twin::{HOLDS, NEXT, NOTHING, RECEIVED, TICKS};
@@ -15,7 +16,7 @@ use twin::{HOLDS, NEXT, NOTHING, RECEIVED, TICKS};
 trait Shape {
     const NAME: &'static str;
 
-    fn new_setting(s: &mut State) -> u32;
+    fn new_setting(s: &State) -> NewBox;
     fn frame(s: &mut State, side: u32, f: &[u8], receive: Stamp, transmit: Stamp, out: &mut [u8]) -> FrameTold;
     fn tick(s: &mut State, out: &mut [u8]) -> Written;
     fn clear(s: &mut State) -> u32;
@@ -56,7 +57,7 @@ macro_rules! in_rust {
 }
 
 in_rust! { Twin, "twin",
-    new_setting(s: &mut State) -> u32 = s.new_setting();
+    new_setting(s: &State) -> NewBox = s.new_setting();
     frame(s: &mut State, side: u32, f: &[u8], receive: Stamp, transmit: Stamp, out: &mut [u8]) -> FrameTold = s.on_frame(side == 0, f, receive, transmit, out);
     tick(s: &mut State, out: &mut [u8]) -> Written = s.tick(out);
     clear(s: &mut State) -> u32 = s.clear();
@@ -72,7 +73,7 @@ in_rust! { Twin, "twin",
 
 // Calls that do nothing: what the measuring itself takes.
 in_rust! { Nothing, "nothing",
-    new_setting(s: &mut State) -> u32 = { black_box(s); 0 };
+    new_setting(s: &State) -> NewBox = { black_box(s); NewBox { refusal: 0, arrays: NOTHING } };
     frame(s: &mut State, side: u32, f: &[u8], receive: Stamp, transmit: Stamp, out: &mut [u8]) -> FrameTold = {
         black_box((s, side, f, receive, transmit, out));
         FrameTold::default()
@@ -83,7 +84,10 @@ in_rust! { Nothing, "nothing",
     send_dmm(s: &State, stamp: Stamp, out: &mut [u8]) -> Written = { black_box((s, stamp, out)); Written::default() };
     conditions(s: &State) -> ConditionsTold = { black_box(s); ConditionsTold::default() };
     measure(session: &mut LossSession, now: Readings) -> LossTold = { black_box((session, now)); LossTold::default() };
-    read_settings(from: &[u8]) -> SettingsRead = { black_box(from); SettingsRead { refusal: 0, set: [0; 4], names: [0; 60], ids: [0; 8] } };
+    read_settings(from: &[u8]) -> SettingsRead = {
+        black_box(from);
+        SettingsRead { refusal: 0, settings: SettingArrays { set: [0; 4], names: [0; 60], ids: [0; 8] } }
+    };
     write_settings(s: &State, into: &mut [u8]) -> Written = { black_box((s, into)); Written::default() };
     read_line(from: &[u8]) -> LineTold = { black_box(from); LineTold::default() };
     write_line(line: LossLine, into: &mut [u8]) -> Written = { black_box((line, into)); Written::default() };
@@ -96,10 +100,7 @@ macro_rules! compiled {
         struct $shape;
 
         unsafe extern "C" {
-            fn $new_setting(
-                set: *mut [u32; 4], names: *mut [u8; 60], ids: *mut [u32; PEERS], timers: *mut [u32; PEERS], rdi: *mut [u32; PEERS], run: *mut [u32; 15],
-                totals: *mut [i64; 2],
-            ) -> u32;
+            fn $new_setting(set: *const [u32; 4], names: *const [u8; 60], ids: *const [u32; PEERS]) -> NewBox;
             fn $frame(
                 set: *const [u32; 4], names: *const [u8; 60], ids: *const [u32; PEERS], timers: *mut [u32; PEERS], rdi: *mut [u32; PEERS],
                 run: *mut [u32; 15], totals: *mut [i64; 2], side: u32, frame: *const u8, length: usize, receive: Stamp, transmit: Stamp, out: *mut u8,
@@ -138,8 +139,8 @@ macro_rules! compiled {
             const NAME: &'static str = $name;
 
             #[inline(always)]
-            fn new_setting(s: &mut State) -> u32 {
-                unsafe { $new_setting(&mut s.set, &mut s.names, &mut s.ids, &mut s.timers, &mut s.rdi, &mut s.run, &mut s.totals) }
+            fn new_setting(s: &State) -> NewBox {
+                unsafe { $new_setting(&s.set, &s.names, &s.ids) }
             }
 
             #[inline(always)]
@@ -386,7 +387,7 @@ fn time<S: Shape>(call: &Call) -> f64 {
     let (mut s, mut out, mut session) = (call.state, [0u8; 1514], LossSession::default());
     match call.kind {
         Kind::NewSetting => repeat(|| {
-            black_box(&S::new_setting(black_box(&mut s)));
+            black_box(&S::new_setting(black_box(&s)));
         }),
         Kind::Frame => repeat(|| {
             black_box(&S::frame(black_box(&mut s), ACTIVE, black_box(&call.octets), HERE, HERE, black_box(&mut out)));
@@ -445,6 +446,7 @@ struct Given<'a> {
 #[derive(PartialEq, Debug)]
 enum Told {
     Number(u32),
+    New(NewBox),
     Frame(FrameTold),
     Written(Written),
     Conditions(ConditionsTold),
@@ -459,6 +461,7 @@ impl Told {
     fn numbers(&self) -> (u32, u32) {
         match self {
             Told::Number(refusal) => (*refusal, 0),
+            Told::New(made) => (made.refusal, 0),
             Told::Frame(told) => (told.refusal, told.drop),
             Told::Written(told) => (told.refusal, 0),
             Told::Conditions(told) => (told.refusal, 0),
@@ -471,10 +474,19 @@ impl Told {
     }
 }
 
+// A new setting, from the settings of a state: what it hands out takes the state's place, and a refusal leaves it.
+fn set<S: Shape>(s: &mut State) -> NewBox {
+    let made = S::new_setting(s);
+    if made.refusal == 0 {
+        *s = made.arrays;
+    }
+    made
+}
+
 // One call of any kind.
 fn make<S: Shape>(kind: Kind, s: &mut State, session: &mut LossSession, given: &Given, out: &mut [u8]) -> Told {
     match kind {
-        Kind::NewSetting => Told::Number(S::new_setting(s)),
+        Kind::NewSetting => Told::New(set::<S>(s)),
         Kind::Frame => Told::Frame(S::frame(s, given.side, given.octets, given.receive, given.transmit, out)),
         Kind::Tick => Told::Written(S::tick(s, out)),
         Kind::Clear => Told::Number(S::clear(s)),

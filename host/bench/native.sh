@@ -68,9 +68,9 @@ use session::Readings;
 use lossrecord::LossLine;
 
 fn main() {
-    let mut set = [0u32; 4];
-    let mut names = [0u8; 60];
-    let mut ids = [0u32; 8];
+    let set = [0u32; 4];
+    let names = [0u8; 60];
+    let ids = [0u32; 8];
     let mut timers = [0u32; 8];
     let mut rdi = [0u32; 8];
     let mut run = [0u32; 15];
@@ -81,7 +81,7 @@ fn main() {
     let last = Readings { txf: 0, rxf: 0, txb: 0, ours: 0 };
     let mut session = LossSession { kept: 0, intervals: 0, last, near: 0, far: 0 };
     let line = LossLine { near: 0, far: 0, intervals: 0 };
-    let _a = linkstate::linkbox_new_setting(&mut set, &mut names, &mut ids, &mut timers, &mut rdi, &mut run, &mut totals);
+    let _a = linkstate::linkbox_new_setting(&set, &names, &ids);
     let _b = linkframe::linkbox_frame(&set, &names, &ids, &mut timers, &mut rdi, &mut run, &mut totals, 1, &frame, zero, zero, &mut out);
     let _c = linksend::linkbox_tick(&set, &names, &ids, &mut timers, &rdi, &mut run, &totals, &mut out);
     let _d = linkstate::linkbox_clear(&set, &names, &ids, &timers, &rdi, &mut run, &mut totals);

@@ -1,7 +1,8 @@
 // The twin: the end point as a good Rust program would have it, without proofs. It has the same seven arrays, the same duties and the same
 // answers as the proved one, and none of its structure: one struct, early returns, slices, the standard library.
 
-use crate::ffi::{Arrays, ConditionFlags, ConditionsTold, FrameTold, LineTold, LossLine, LossSession, LossTold, Readings, SettingsRead, Stamp, Written};
+use crate::ffi::{Arrays, ConditionFlags, ConditionsTold, FrameTold, LineTold, LossLine, LossSession, LossTold, NewBox, Readings, SettingArrays, SettingsRead};
+use crate::ffi::{Stamp, Written};
 #[cfg(tlv)]
 use crate::ffi::TlvTold;
 
@@ -358,19 +359,15 @@ impl Arrays {
         Written { refusal: 0, length: 51 }
     }
 
-    pub fn new_setting(&mut self) -> u32 {
+    // Settings as they lie at the front; the rest is not looked at.
+    pub fn new_setting(&self) -> NewBox {
         if !self.settings_valid() {
-            *self = NOTHING;
-            return 4;
+            return NewBox { refusal: 4, arrays: NOTHING };
         }
-        let (hold, count) = (self.hold(), self.set[3] as usize);
-        self.timers[..count].fill(hold);
-        self.timers[count..].fill(0);
-        self.rdi = [0; 8];
-        self.run = [0; 15];
-        self.totals = [0; 2];
-        self.run[NEXT] = TICKS[self.set[2] as usize & 7];
-        0
+        let mut arrays = Arrays { set: self.set, names: self.names, ids: self.ids, ..NOTHING };
+        arrays.timers[..self.set[3] as usize].fill(self.hold());
+        arrays.run[NEXT] = TICKS[self.set[2] as usize & 7];
+        NewBox { refusal: 0, arrays }
     }
 
     pub fn clear(&mut self) -> u32 {
@@ -433,7 +430,7 @@ fn line_good(near: i64, far: i64, intervals: u32) -> bool {
 }
 
 pub fn read_settings(from: &[u8]) -> SettingsRead {
-    let refused = SettingsRead { refusal: 7, set: [0; 4], names: [0; 60], ids: [0; 8] };
+    let refused = SettingsRead { refusal: 7, settings: SettingArrays { set: [0; 4], names: [0; 60], ids: [0; 8] } };
     let Some(from) = from.get(..85) else { return refused };
     if from[..4] != [83, 0, 1, 0] {
         return refused;
@@ -446,7 +443,7 @@ pub fn read_settings(from: &[u8]) -> SettingsRead {
     if !read.settings_valid() {
         return refused;
     }
-    SettingsRead { refusal: 0, set: read.set, names: read.names, ids: read.ids }
+    SettingsRead { refusal: 0, settings: SettingArrays { set: read.set, names: read.names, ids: read.ids } }
 }
 
 fn le16(f: &[u8], at: usize) -> u32 {

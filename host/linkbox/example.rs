@@ -1,4 +1,5 @@
-//! Two boxes back to back on one link: CCMs both ways, a frame that passes, a loopback request, loss and delay, and a record that is stored and read back.
+//! Two boxes back to back on one link: CCMs both ways, a frame that passes, a loopback request, loss and delay, a record that is stored and read back, a
+//! setting that is refused.
 use linkbox::{FrameAnswer, LinkBox, LossLine, LossSession, Readings, Refusal, Settings, Side, Stamp};
 
 const HERE: [u8; 6] = [2, 0, 0xc0, 0xff, 0xee, 1];
@@ -68,6 +69,8 @@ fn main() -> Result<(), Refusal> {
     println!("its record reads back: {}", LossLine::read(line.write(&mut out)?)? == line);
     println!("the settings read back: {}", Settings::read(quay.settings().write(&mut out)?)? == quay.settings());
 
+    let before = quay;
+    println!("a setting of level 8: {:?}; the box runs on as it was: {}", quay.set(&Settings { level: 8, ..quay.settings() }), quay == before);
     println!("a frame of 13 octets: {:?}", quay.frame(Side::Active, &service[..13], NONE, NONE, &mut reply));
     println!("a box that was never set: {:?}", LinkBox::from_arrays(zeros()).conditions());
     Ok(())

@@ -6,15 +6,25 @@
 /// How many peers a box has room for.
 pub const PEERS: usize = 8;
 
-/// What a box knows, as linkbox.h lays it out: 248 octets, no padding.
+/// What a box is set to, as it lies at a box's front.
 #[repr(C)]
 #[derive(Clone, Copy, PartialEq, Eq, Debug)]
-pub struct Arrays {
+pub struct SettingArrays {
     /// Level, MEP ID, period code, peer count.
     pub set: [u32; 4],
     /// Own address 6, loss peer's address 6, MEG ID 48, in wire order.
     pub names: [u8; 60],
     /// The peers' MEP IDs, 0 in unused slots.
+    pub ids: [u32; PEERS],
+}
+
+/// What a box knows, as linkbox.h lays it out: 248 octets, no padding.
+#[repr(C)]
+#[derive(Clone, Copy, PartialEq, Eq, Debug)]
+pub struct Arrays {
+    /// What it is set to, these three: see [`SettingArrays`].
+    pub set: [u32; 4],
+    pub names: [u8; 60],
     pub ids: [u32; PEERS],
     /// Of each peer: ticks until its continuity is lost.
     pub timers: [u32; PEERS],
@@ -25,6 +35,14 @@ pub struct Arrays {
     pub run: [u32; 15],
     /// Near and far loss.
     pub totals: [i64; 2],
+}
+
+/// What a new setting is answered: the refusal, or 0, and the box that the settings start, all zero beside refusal 4.
+#[repr(C)]
+#[derive(Clone, Copy, PartialEq, Eq, Debug)]
+pub struct NewBox {
+    pub refusal: u32,
+    pub arrays: Arrays,
 }
 
 /// A time as the wire has it. All zero means "not given".
@@ -86,9 +104,7 @@ pub struct ConditionsTold {
 #[derive(Clone, Copy, PartialEq, Eq, Debug)]
 pub struct SettingsRead {
     pub refusal: u32,
-    pub set: [u32; 4],
-    pub names: [u8; 60],
-    pub ids: [u32; PEERS],
+    pub settings: SettingArrays,
 }
 
 /// A loss line: near and far totals, and the intervals that they count.
@@ -153,20 +169,18 @@ pub struct TlvTold {
 
 // The sizes that linkbox.h asserts too.
 const _: () = assert!(size_of::<usize>() == 8, "the library is code for 64 bits");
-const _: () = assert!(size_of::<Arrays>() == 248, "a box has no padding");
+const _: () = assert!(size_of::<Arrays>() == 248 && size_of::<SettingArrays>() == 108, "a box and its settings have no padding");
+const _: () = assert!(size_of::<NewBox>() == 256 && core::mem::offset_of!(NewBox, arrays) == 8);
 const _: () = assert!(size_of::<Stamp>() == 8 && size_of::<Written>() == 16 && size_of::<FrameTold>() == 64);
 const _: () = assert!(size_of::<ConditionFlags>() == 88 && size_of::<ConditionsTold>() == 92 && size_of::<SettingsRead>() == 112);
 const _: () = assert!(size_of::<LossLine>() == 24 && size_of::<LineTold>() == 24 && size_of::<LossSession>() == 40 && size_of::<LossTold>() == 24);
 const _: () = assert!(size_of::<TlvTold>() == 32);
 
 unsafe extern "C" {
-    /// A new setting, from the settings that lie there; tells 0, or refusal 4, after which every array holds zeros. Writes all.
-    pub fn linkbox_new_setting(
-        set: *mut [u32; 4], names: *mut [u8; 60], ids: *mut [u32; PEERS], timers: *mut [u32; PEERS], rdi: *mut [u32; PEERS], run: *mut [u32; 15],
-        totals: *mut [i64; 2],
-    ) -> u32;
+    /// A new setting: the box that these settings start, or refusal 4 and zeros. Writes nothing.
+    pub fn linkbox_new_setting(set: *const [u32; 4], names: *const [u8; 60], ids: *const [u32; PEERS]) -> NewBox;
 
-    /// A frame from a side (0 active, else passive). Writes timers, rdi, run, totals and out.
+    /// A frame from a side (0 the active one, any other number the passive one). Writes timers, rdi, run, totals and out.
     pub fn linkbox_frame(
         set: *const [u32; 4], names: *const [u8; 60], ids: *const [u32; PEERS], timers: *mut [u32; PEERS], rdi: *mut [u32; PEERS], run: *mut [u32; 15],
         totals: *mut [i64; 2], side: u32, frame: *const u8, length: usize, receive: Stamp, transmit: Stamp, out: *mut u8, room: usize,

@@ -24,6 +24,7 @@
 
 pub mod ffi;
 
+use ffi::SettingArrays;
 pub use ffi::{Arrays, LossLine, LossSession, PEERS, Readings, Stamp};
 
 /// Why a call was refused; state and buffers are as they were.
@@ -179,17 +180,17 @@ pub struct Settings {
 }
 
 impl Settings {
-    /// As they lie in a box.
-    fn lying(&self) -> ([u32; 4], [u8; 60], [u32; PEERS]) {
+    /// As they lie at a box's front.
+    fn lying(&self) -> SettingArrays {
         let mut names = [0; 60];
         names[..6].copy_from_slice(&self.own_address);
         names[6..12].copy_from_slice(&self.loss_peer);
         names[12..].copy_from_slice(&self.meg);
-        ([self.level, self.mep, self.period, self.count], names, self.ids)
+        SettingArrays { set: [self.level, self.mep, self.period, self.count], names, ids: self.ids }
     }
 
-    /// From how they lie in a box.
-    fn of([level, mep, period, count]: [u32; 4], names: &[u8; 60], ids: [u32; PEERS]) -> Settings {
+    /// From how they lie at a box's front.
+    fn of(SettingArrays { set: [level, mep, period, count], names, ids }: SettingArrays) -> Settings {
         let mut settings = Settings { level, mep, period, count, ids, own_address: [0; 6], loss_peer: [0; 6], meg: [0; 48] };
         settings.own_address.copy_from_slice(&names[..6]);
         settings.loss_peer.copy_from_slice(&names[6..12]);
@@ -201,13 +202,13 @@ impl Settings {
     pub fn read(from: &[u8]) -> Result<Settings, Refusal> {
         let read = unsafe { ffi::linkbox_read_settings(from.as_ptr(), from.len()) };
         Refusal::of(read.refusal)?;
-        Ok(Settings::of(read.set, &read.names, read.ids))
+        Ok(Settings::of(read.settings))
     }
 
     /// Writes them as a record into the front of a buffer, and gives the record. Refusals 4 and 3.
     pub fn write<'a>(&self, into: &'a mut [u8]) -> Result<&'a [u8], Refusal> {
-        let (set, names, ids) = self.lying();
-        let told = unsafe { ffi::linkbox_write_settings(into.as_mut_ptr(), into.len(), &set, &names, &ids) };
+        let lying = self.lying();
+        let told = unsafe { ffi::linkbox_write_settings(into.as_mut_ptr(), into.len(), &lying.set, &lying.names, &lying.ids) };
         written(told, into)
     }
 }
@@ -251,13 +252,16 @@ pub struct LinkBox {
 impl LinkBox {
     /// A box after a new setting: service counts 0, a cleared session, RDI off, a full period to run. Refusal 4.
     pub fn new(settings: &Settings) -> Result<LinkBox, Refusal> {
-        let (set, names, ids) = settings.lying();
-        let mut arrays = Arrays { set, names, ids, timers: [0; PEERS], rdi: [0; PEERS], run: [0; 15], totals: [0; 2] };
-        let a = &mut arrays;
-        let refusal =
-            unsafe { ffi::linkbox_new_setting(&mut a.set, &mut a.names, &mut a.ids, &mut a.timers, &mut a.rdi, &mut a.run, &mut a.totals) };
-        Refusal::of(refusal)?;
-        Ok(LinkBox { arrays })
+        let lying = settings.lying();
+        let made = unsafe { ffi::linkbox_new_setting(&lying.set, &lying.names, &lying.ids) };
+        Refusal::of(made.refusal)?;
+        Ok(LinkBox { arrays: made.arrays })
+    }
+
+    /// A new setting of this box: it starts as a new one does. Where that is refused, by 4, the box runs on as it was.
+    pub fn set(&mut self, settings: &Settings) -> Result<(), Refusal> {
+        *self = LinkBox::new(settings)?;
+        Ok(())
     }
 
     /// A box with a state that was kept elsewhere. Any content is a value: what is not well formed every call refuses.
@@ -272,7 +276,8 @@ impl LinkBox {
 
     /// What the box is set to.
     pub fn settings(&self) -> Settings {
-        Settings::of(self.arrays.set, &self.arrays.names, self.arrays.ids)
+        let a = &self.arrays;
+        Settings::of(SettingArrays { set: a.set, names: a.names, ids: a.ids })
     }
 
     /// A frame from a side, without its check sequence: `receive` is when it came, `transmit` when a reply will leave. A reply is written into the front

@@ -12,13 +12,13 @@
  *      over a pointer to anything and 0. The inline functions below take NULL for no octets, whatever length stands beside it.
  *   4. Two calls at a time need two boxes.
  *
- * Refusals by number (member refusal; 0 means none), with everything handed over left as it was:
+ * Refusals by number (member refusal; 0 means none). After a refusal everything handed over is as it was, after that of a new setting too:
  *   1  frame length outside 14..1,514                        5  a good loss reply would start interval 1,000,000,001
  *   2  the state handed in is not well formed                6  a stamp given by the caller has too many nanoseconds
  *   3  a message or record must be written and the buffer    7  a stored record has a wrong length or kind, is cut short,
  *      is shorter than it                                       or breaks a rule on its values
  *   4  a setting breaks a line of the paper's numbers
- * Any other number beside a refusal or a drop is 0. */
+ * Any other number of an answer beside a refusal or a drop is 0. */
 #ifndef LINKBOX_H
 #define LINKBOX_H
 
@@ -117,8 +117,16 @@ enum { LINKBOX_NEAR = 0, LINKBOX_FAR = 1, LINKBOX_TOTALS = 2 };
 
 /* ── structs ── */
 
+/* What a box is set to, as it lies at a box's front; IDs of unused peer slots are 0. Any content is a value: a new setting and a write refuse what breaks a
+ * rule. */
+struct linkbox_settings {
+    uint32_t set[LINKBOX_SET];
+    uint8_t names[LINKBOX_NAMES];
+    uint32_t ids[LINKBOX_PEERS];
+};
+
 /* What a box knows. All zero is a box that was never set: it is not well formed, and every call but a new setting refuses it with 2.
- *   set, names, ids   the settings; IDs of unused peer slots are 0
+ *   set, names, ids   the settings
  *   timers            of each peer: ticks until its continuity is lost, 0 while it is
  *   rdi               of each peer: 1 while its last CCM had RDI, else 0
  *   run, totals       as their places say */
@@ -130,6 +138,12 @@ struct linkbox_box {
     uint32_t rdi[LINKBOX_PEERS];
     uint32_t run[LINKBOX_RUN];
     int64_t totals[LINKBOX_TOTALS];
+};
+
+/* What a new setting is answered: the refusal, or 0, and the box that the settings start, all zero beside refusal 4. */
+struct linkbox_new_box {
+    uint32_t refusal;
+    struct linkbox_box box;
 };
 
 /* A time as the wire has it: seconds, and nanoseconds up to 999,999,999. All zero means "not given". */
@@ -188,12 +202,10 @@ struct linkbox_conditions_told {
     struct linkbox_condition_flags conditions;
 };
 
-/* What a read of a settings record is answered: the refusal, or 0, and the settings as they lie in a box. */
+/* What a read of a settings record is answered: the refusal, or 0, and the settings, for a new setting to take; zeros beside 7, which it refuses. */
 struct linkbox_settings_read {
     uint32_t refusal;
-    uint32_t set[LINKBOX_SET];
-    uint8_t names[LINKBOX_NAMES];
-    uint32_t ids[LINKBOX_PEERS];
+    struct linkbox_settings settings;
 };
 
 /* A loss line: near and far totals, and the intervals that they count. */
@@ -256,6 +268,11 @@ LINKBOX_HOLDS(offsetof(struct linkbox_box, rdi) == 140, "rdi behind timers");
 LINKBOX_HOLDS(offsetof(struct linkbox_box, run) == 172, "run behind rdi");
 LINKBOX_HOLDS(offsetof(struct linkbox_box, totals) == 232, "totals behind run");
 LINKBOX_HOLDS(sizeof(struct linkbox_box) == 248, "a box has no padding");
+LINKBOX_HOLDS(offsetof(struct linkbox_settings, set) == offsetof(struct linkbox_box, set), "settings have set where a box has it");
+LINKBOX_HOLDS(offsetof(struct linkbox_settings, names) == offsetof(struct linkbox_box, names), "and names");
+LINKBOX_HOLDS(offsetof(struct linkbox_settings, ids) == offsetof(struct linkbox_box, ids), "and ids");
+LINKBOX_HOLDS(sizeof(struct linkbox_settings) == 108, "settings have no padding");
+LINKBOX_HOLDS(offsetof(struct linkbox_new_box, box) == 8 && sizeof(struct linkbox_new_box) == 256, "a new setting's answer has 256 octets");
 LINKBOX_HOLDS(sizeof(struct linkbox_stamp) == 8, "a stamp is two words");
 LINKBOX_HOLDS(offsetof(struct linkbox_frame_told, done) == 8 && offsetof(struct linkbox_frame_told, length) == 16, "three words, then the length");
 LINKBOX_HOLDS(offsetof(struct linkbox_frame_told, near) == 24 && offsetof(struct linkbox_frame_told, onewaynear) == 56, "losses, then delays");
@@ -266,8 +283,7 @@ LINKBOX_HOLDS(offsetof(struct linkbox_record_told, length) == 8 && sizeof(struct
 LINKBOX_HOLDS(offsetof(struct linkbox_condition_flags, rdi) == 32 && offsetof(struct linkbox_condition_flags, mismerge) == 64, "two words a peer first");
 LINKBOX_HOLDS(offsetof(struct linkbox_condition_flags, lck) == 84 && sizeof(struct linkbox_condition_flags) == 88, "then six words");
 LINKBOX_HOLDS(offsetof(struct linkbox_conditions_told, conditions) == 4 && sizeof(struct linkbox_conditions_told) == 92, "and the refusal before them");
-LINKBOX_HOLDS(offsetof(struct linkbox_settings_read, set) == 4 && offsetof(struct linkbox_settings_read, names) == 20, "the refusal, then a box's front");
-LINKBOX_HOLDS(offsetof(struct linkbox_settings_read, ids) == 80 && sizeof(struct linkbox_settings_read) == 112, "settings read have 112 octets");
+LINKBOX_HOLDS(offsetof(struct linkbox_settings_read, settings) == 4 && sizeof(struct linkbox_settings_read) == 112, "the refusal, then the settings");
 LINKBOX_HOLDS(offsetof(struct linkbox_loss_line, intervals) == 16 && sizeof(struct linkbox_loss_line) == 24, "a loss line has 24 octets");
 LINKBOX_HOLDS(offsetof(struct linkbox_line_told, near) == 8 && sizeof(struct linkbox_line_told) == 24, "a line's answer has 24 octets");
 LINKBOX_HOLDS(sizeof(struct linkbox_readings) == 16, "four readings are four words");
@@ -278,14 +294,14 @@ LINKBOX_HOLDS(offsetof(struct linkbox_tlv_told, start) == 16 && sizeof(struct li
 
 /* ── the library's own functions; arrays are pointers to their first element, lengths are those of struct linkbox_box ── */
 
-/* A new setting, from the settings that lie in set, names and ids; takes no old state. It starts with both service counts 0, a cleared session, RDI off,
- * peer timers at the hold time, the others at 0 and a full period to run. Tells 0, or refusal 4, after which every array holds zeros.
- * Writes all seven arrays; no two may overlap. */
-uint32_t linkbox_new_setting(uint32_t *set, uint8_t *names, uint32_t *ids, uint32_t *timers, uint32_t *rdi, uint32_t *run, int64_t *totals);
+/* A new setting: hands out the box that these settings start; takes no old state. It starts with both service counts 0, a cleared session, RDI off, peer
+ * timers at the hold time, the others at 0 and a full period to run. Refusal 4; the box handed out beside it is all zero, so not well formed, and the
+ * caller keeps the box that runs. Writes nothing. */
+struct linkbox_new_box linkbox_new_setting(const uint32_t *set, const uint8_t *names, const uint32_t *ids);
 
 /* A frame from a side, rules 1 to 8: `length` octets at `frame`, destination address first, without the check sequence; `receive` is when it came,
  * `transmit` when a reply will leave (both may be all zero, "not given"). A reply is written into the front of the `room` octets at `out`; the octets behind
- * it stay.
+ * it stay. `side` is 0 for the active side; any other number, 1 or not, is the passive side, and none is refused.
  * Refusals 2, 1, 6, then the frame's rules, then 3 or 5. A drop changes nothing but, for a lower level's good CCM, the unexpected-level timer.
  * Writes timers, rdi, run, totals and out; none of these may overlap another, nor set, names, ids or the frame. */
 struct linkbox_frame_told linkbox_frame(const uint32_t *set, const uint8_t *names, const uint32_t *ids, uint32_t *timers, uint32_t *rdi, uint32_t *run,
@@ -357,12 +373,28 @@ static inline size_t linkbox_part_length(const uint8_t *part, size_t length) {
     return part ? length : 0;
 }
 
-/* A new setting from the settings that lie in the box. After refusal 4 the box is all zero. Writes the whole box. */
-static inline uint32_t linkbox_box_new_setting(struct linkbox_box *box) {
-    return linkbox_new_setting(box->set, box->names, box->ids, box->timers, box->rdi, box->run, box->totals);
+/* Octets from one place to another. Where a struct of this size is assigned whole, some compilers call memcpy, which the host may not have. */
+static inline void linkbox_copy(void *to, const void *from, size_t octets) {
+    size_t i;
+    for (i = 0; i < octets; i++) ((uint8_t *)to)[i] = ((const uint8_t *)from)[i];
 }
 
-/* A frame. The box, the frame and out may not overlap. */
+/* What a box is set to, to be changed and set anew. */
+static inline struct linkbox_settings linkbox_box_settings(const struct linkbox_box *box) {
+    struct linkbox_settings settings;
+    linkbox_copy(&settings, box, sizeof settings);
+    return settings;
+}
+
+/* A new setting of a box. Tells 0, and the box starts with these settings, whatever it held; or refusal 4, and the box runs on as it was. Writes the whole
+ * box, and nothing where it refuses. The box and the settings may not overlap. */
+static inline uint32_t linkbox_box_new_setting(struct linkbox_box *box, const struct linkbox_settings *settings) {
+    const struct linkbox_new_box made = linkbox_new_setting(settings->set, settings->names, settings->ids);
+    if (made.refusal == 0) linkbox_copy(box, &made.box, sizeof *box);
+    return made.refusal;
+}
+
+/* A frame; any side but 0 is the passive one. The box, the frame and out may not overlap. */
 static inline struct linkbox_frame_told linkbox_box_frame(struct linkbox_box *box, uint32_t side, const uint8_t *frame, size_t length,
                                                           struct linkbox_stamp receive, struct linkbox_stamp transmit, uint8_t *out, size_t room) {
     uint8_t none = 0;
@@ -407,12 +439,10 @@ static inline struct linkbox_record_told linkbox_box_write_settings(const struct
     return linkbox_write_settings(linkbox_write_part(into, &none), linkbox_part_length(into, room), box->set, box->names, box->ids);
 }
 
-/* Lays settings that were read into a box, for a new setting to start from. Zeros beside a refusal, so that the new setting refuses them. */
-static inline void linkbox_box_put_settings(struct linkbox_box *box, const struct linkbox_settings_read *read) {
-    size_t i;
-    for (i = 0; i < LINKBOX_SET; i++) box->set[i] = read->set[i];
-    for (i = 0; i < LINKBOX_NAMES; i++) box->names[i] = read->names[i];
-    for (i = 0; i < LINKBOX_PEERS; i++) box->ids[i] = read->ids[i];
+/* Settings as a record. The settings and into may not overlap. */
+static inline struct linkbox_record_told linkbox_put_settings(uint8_t *into, size_t room, const struct linkbox_settings *settings) {
+    uint8_t none = 0;
+    return linkbox_write_settings(linkbox_write_part(into, &none), linkbox_part_length(into, room), settings->set, settings->names, settings->ids);
 }
 
 /* The settings of a stored record. */

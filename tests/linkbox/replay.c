@@ -1,10 +1,9 @@
 /* replay.c: a box driven from C. It reads a run of calls on standard input and prints one line for each, as the proved program `replay` does, but makes
  * every call through linkbox.h and the static library. `run`, beside it, compares the two. What a run of calls is stands in crates/replay. */
-#include "linkbox.h"
+#include "said.h"
 
-/* C lets these two be declared without their header, so that the program also builds where there is none. */
+/* C lets this be declared without its header. */
 int getchar(void);
-int putchar(int octet);
 
 /* The longest call behind its length, the largest buffer, a state's and a session's octets. */
 enum { MOST = 2000, ROOM = 1600, SETTINGS = 81, STATE = 194, SESSION = 37, LINE = 20, STAMP = 8 };
@@ -59,22 +58,6 @@ static const struct shape SHAPES[] = {
 };
 
 /* ── words of a line ── */
-
-/* Text as it stands. */
-static void print_text(const char *text) {
-    for (; *text != '\0'; text++) putchar(*text);
-}
-
-/* A number in decimal. */
-static void print_decimal(uint64_t number) {
-    char digits[20];
-    size_t count = 0;
-    do {
-        digits[count++] = (char)('0' + (int)(number % 10));
-        number /= 10;
-    } while (number != 0 && count < sizeof digits);
-    while (count > 0) putchar(digits[--count]);
-}
 
 /* A space, then a number in decimal with its sign. */
 static void print_number(int64_t number) {
@@ -156,15 +139,17 @@ static struct linkbox_stamp take_stamp(struct rest *body) {
 }
 
 /* Settings, as they stand in a record's body. */
-static void take_settings(struct rest *body, struct linkbox_box *box) {
-    box->set[LINKBOX_LEVEL] = take_word(body, 1);
-    box->set[LINKBOX_MEP] = take_word(body, 2);
-    take_octets(body, box->names + LINKBOX_OWN, 6);
-    box->set[LINKBOX_PERIOD] = take_word(body, 1);
-    take_octets(body, box->names + LINKBOX_MEG, 48);
-    take_octets(body, box->names + LINKBOX_LOSS_PEER, 6);
-    box->set[LINKBOX_COUNT] = take_word(body, 1);
-    for (size_t i = 0; i < LINKBOX_PEERS; i++) box->ids[i] = take_word(body, 2);
+static struct linkbox_settings take_settings(struct rest *body) {
+    struct linkbox_settings settings;
+    settings.set[LINKBOX_LEVEL] = take_word(body, 1);
+    settings.set[LINKBOX_MEP] = take_word(body, 2);
+    take_octets(body, settings.names + LINKBOX_OWN, 6);
+    settings.set[LINKBOX_PERIOD] = take_word(body, 1);
+    take_octets(body, settings.names + LINKBOX_MEG, 48);
+    take_octets(body, settings.names + LINKBOX_LOSS_PEER, 6);
+    settings.set[LINKBOX_COUNT] = take_word(body, 1);
+    for (size_t i = 0; i < LINKBOX_PEERS; i++) settings.ids[i] = take_word(body, 2);
+    return settings;
 }
 
 /* The running words of a state, in the order in which a state is put and shown. */
@@ -178,9 +163,10 @@ static const size_t READING[] = {LINKBOX_TXFCF, LINKBOX_RXFCF, LINKBOX_TXFCB, LI
 
 enum { READING_COUNT = sizeof READING / sizeof READING[0] };
 
-/* A state. */
+/* A state. Its settings lie at its front. */
 static void take_state(struct rest *body, struct linkbox_box *box) {
-    take_settings(body, box);
+    const struct linkbox_settings settings = take_settings(body);
+    linkbox_copy(box, &settings, sizeof settings);
     box->run[LINKBOX_SENT] = take_word(body, 4);
     box->run[LINKBOX_RECEIVED] = take_word(body, 4);
     for (size_t i = 0; i < LINKBOX_PEERS; i++) box->timers[i] = take_word(body, 4);
@@ -206,20 +192,21 @@ static struct linkbox_readings take_readings(struct rest *body) {
 /* ── states and sessions as octets ── */
 
 /* Settings as they stand in a record's body. */
-static void print_settings(const struct linkbox_box *box) {
-    print_little(box->set[LINKBOX_LEVEL], 1);
-    print_little(box->set[LINKBOX_MEP], 2);
-    print_octets(box->names + LINKBOX_OWN, 6);
-    print_little(box->set[LINKBOX_PERIOD], 1);
-    print_octets(box->names + LINKBOX_MEG, 48);
-    print_octets(box->names + LINKBOX_LOSS_PEER, 6);
-    print_little(box->set[LINKBOX_COUNT], 1);
-    for (size_t i = 0; i < LINKBOX_PEERS; i++) print_little(box->ids[i], 2);
+static void print_settings(const struct linkbox_settings *settings) {
+    print_little(settings->set[LINKBOX_LEVEL], 1);
+    print_little(settings->set[LINKBOX_MEP], 2);
+    print_octets(settings->names + LINKBOX_OWN, 6);
+    print_little(settings->set[LINKBOX_PERIOD], 1);
+    print_octets(settings->names + LINKBOX_MEG, 48);
+    print_octets(settings->names + LINKBOX_LOSS_PEER, 6);
+    print_little(settings->set[LINKBOX_COUNT], 1);
+    for (size_t i = 0; i < LINKBOX_PEERS; i++) print_little(settings->ids[i], 2);
 }
 
 /* A state. */
 static void print_state(const struct linkbox_box *box) {
-    print_settings(box);
+    const struct linkbox_settings settings = linkbox_box_settings(box);
+    print_settings(&settings);
     print_little(box->run[LINKBOX_SENT], 4);
     print_little(box->run[LINKBOX_RECEIVED], 4);
     for (size_t i = 0; i < LINKBOX_PEERS; i++) print_little(box->timers[i], 4);
@@ -319,10 +306,20 @@ static uint8_t *part(struct held *held, const struct call *call) {
     return call->room == 0 ? NULL : held->buffer;
 }
 
-/* 257: the state that the setting starts with becomes the held one. */
+/* Tells whether the call for a whole box gives the same number, and leaves the box that was handed out, or the one before where it refuses. */
+static int box_follows(struct linkbox_box box, const struct linkbox_settings *settings, const struct linkbox_new_box *made) {
+    const struct linkbox_box before = box;
+    if (linkbox_box_new_setting(&box, settings) != made->refusal) return 0;
+    return same_octets(&box, made->refusal == 0 ? &made->box : &before, sizeof box);
+}
+
+/* 257: the box that is handed out becomes the held one, zeros where the setting is refused. */
 static void new_setting(struct held *held, struct call *call) {
-    take_settings(&call->body, &held->box);
-    print_done(linkbox_box_new_setting(&held->box), "set");
+    const struct linkbox_settings settings = take_settings(&call->body);
+    const struct linkbox_new_box made = linkbox_new_setting(settings.set, settings.names, settings.ids);
+    if (!box_follows(held->box, &settings, &made)) print_text("the call for a whole box differs: ");
+    held->box = made.box;
+    print_done(made.refusal, "set");
 }
 
 /* 258: side, stamps, and the rest is the frame. */
@@ -413,22 +410,19 @@ static void measure(struct held *held, struct call *call) {
     print_session(&held->session);
 }
 
-/* 268: the settings that were read lie in a box of their own, to be printed as a state's are. */
+/* 268 */
 static void read_settings(struct call *call) {
     struct linkbox_settings_read read = linkbox_settings_in(call->body.left == 0 ? NULL : call->body.at, call->body.left);
     if (print_refused(read.refusal)) return;
-    struct linkbox_box box = {0};
-    linkbox_box_put_settings(&box, &read);
     print_text("settings ");
-    print_settings(&box);
+    print_settings(&read.settings);
 }
 
-/* 269: the settings lie in a box of their own. */
+/* 269 */
 static void write_settings(struct held *held, struct call *call) {
-    struct linkbox_box box = {0};
     take(&call->body, 2);
-    take_settings(&call->body, &box);
-    struct linkbox_record_told told = linkbox_box_write_settings(&box, part(held, call), call->room);
+    const struct linkbox_settings settings = take_settings(&call->body);
+    struct linkbox_record_told told = linkbox_put_settings(part(held, call), call->room, &settings);
     print_sent(told.refusal, told.length);
 }
 

@@ -7,25 +7,8 @@ use Rattle.linkstate.proofs.linkbox_new_setting.Reads as new-setting
 use Rattle.linkstate.proofs.linkbox_clear.Reads as clear
 use Rattle.linkstate.proofs.linkbox_conditions.Reads as conditions
 
-pub linkbox-new-setting-one : (κs : _) (a : _) (r r′ : _) (s s′ : _) → new-setting.Post κs a r s → new-setting.Post κs a r′ s′
-    → (r ≡ r′)
-    × (now (s .0) ≡ now (s′ .0))
-    × (now (s .1 .0) ≡ now (s′ .1 .0))
-    × (now (s .1 .1 .0) ≡ now (s′ .1 .1 .0))
-    × (now (s .1 .1 .1 .0) ≡ now (s′ .1 .1 .1 .0))
-    × (now (s .1 .1 .1 .1 .0) ≡ now (s′ .1 .1 .1 .1 .0))
-    × (now (s .1 .1 .1 .1 .1 .0) ≡ now (s′ .1 .1 .1 .1 .1 .0))
-    × (now (s .1 .1 .1 .1 .1 .1 .0) ≡ now (s′ .1 .1 .1 .1 .1 .1 .0))
-linkbox-new-setting-one κs a r r′ s s′ p q = (
-  p .0 ∙ sym (q .0),
-  p .1 .words-are ∙ sym (q .1 .words-are),
-  p .1 .names-are ∙ sym (q .1 .names-are),
-  p .1 .ids-are ∙ sym (q .1 .ids-are),
-  p .1 .timers-are ∙ sym (q .1 .timers-are),
-  p .1 .rdi-are ∙ sym (q .1 .rdi-are),
-  p .1 .run-is ∙ sym (q .1 .run-is),
-  p .1 .totals-are ∙ sym (q .1 .totals-are),
-)
+pub linkbox-new-setting-one : (κs : _) (a : _) (r r′ : _) (s s′ : _) → new-setting.Post κs a r s → new-setting.Post κs a r′ s′ → r ≡ r′
+linkbox-new-setting-one κs a r r′ s s′ p q = p .0 ∙ sym (q .0)
 
 pub linkbox-clear-one : (κs : _) (a : _) (r r′ : _) (s s′ : _) → clear.Post κs a r s → clear.Post κs a r′ s′
     → (r ≡ r′)

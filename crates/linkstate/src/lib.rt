@@ -3,32 +3,41 @@
 // Any content of the memory is a value. What a caller sees to is that the pointers are to memory of these sizes, and that what is written overlaps nothing
 // else that is handed over.
 ghost use mathlib.Core.Path.{_≡_};
-ghost use Rattle.settings.specs.Settings.{settingsOf};
+ghost use Rattle.settings.specs.Settings.{slots, settingsOf, Shaped};
 ghost use Rattle.state.specs.State.{lying};
 ghost use Rattle.places.specs.Stored.{Whole};
-ghost use Rattle.start.specs.Start.{numbersOf as settingNumbers, Started};
 ghost use Rattle.clear.specs.Clear.{clearOf, numbersOf as clearNumbers};
 ghost use Rattle.conditions.specs.Conditions.{conditionsOf};
+ghost use Rattle.linkstate.specs.NewBox.{newBox};
 use conditions::ConditionsTold;
 use settings::PEERS;
+use state::StateArrays;
 
-// A new setting, from the settings that lie there; tells 0, or refusal 4, after which every array holds zeros.
+// What a new setting is answered: 0, or refusal 4; and the state that it hands out, all zeros beside 4.
+#[repr(C)]
+pub struct NewBox {
+    pub refusal: u32,
+    pub state: StateArrays,
+}
+
+// A new setting, from settings that are only read. The caller takes the state over, or leaves it where it is refused.
 #[no_mangle]
 pub extern "C" fn linkbox_new_setting(
-    set: &mut [u32; 4],
-    names: &mut [u8; 60],
-    ids: &mut [u32; PEERS],
-    timers: &mut [u32; PEERS],
-    rdi: &mut [u32; PEERS],
-    run: &mut [u32; 15],
-    totals: &mut [i64; 2],
-) -> u32
-    ensures { λ r. ⌜ r ≡ settingNumbers (settingsOf (now (set .entry)) (now (names .entry)) (now (ids .entry))) .refusal ⌝ }
-    ensures { λ _. ⌜ Started (now (set .entry)) (now (names .entry)) (now (ids .entry)) (now (set .exit)) (now (names .exit)) (now (ids .exit)) (now (timers .exit)) (now (rdi .exit)) (now (run .exit)) (now (totals .exit)) ⌝ }
+    set: &[u32; 4],
+    names: &[u8; 60],
+    ids: &[u32; PEERS],
+) -> NewBox
+    ensures { λ r. ⌜ r ≡ newBox (now (set .entry)) (now (names .entry)) (now (ids .entry)) ⌝ }
+    ensures { λ _. ⌜ Shaped slots (settingsOf (now (set .entry)) (now (names .entry)) (now (ids .entry))) ⌝ }
 {
-    let answer = start::new_setting(set, names, ids, timers, rdi, run, totals);
+    let started = start::new_setting(set, names, ids);
+    let answer = started.answer;
+    let state = started.state;
     let told = settinganswer::tell(answer);
-    told.refusal
+    NewBox {
+        refusal: told.refusal,
+        state,
+    }
 }
 
 // A clear of the loss session; tells 0, or refusal 2.

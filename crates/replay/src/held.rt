@@ -2,7 +2,7 @@
 use session::LossSession;
 use session::cleared;
 use settings::PEERS;
-use statelayout::StateArrays;
+use state::StateArrays;
 
 // The state and the lent session.
 pub(crate) struct Held {

@@ -41,7 +41,7 @@ use libc::STDIN_FILENO;
 use libc::STDOUT_FILENO;
 use octets::numbers::read_little;
 use spelling::write_word;
-use statelayout::StateArrays;
+use state::StateArrays;
 
 // Room for the longest line: 1,600 octets in hex, and the answer before them.
 const LINE: usize = 4096;

@@ -14,7 +14,7 @@ use sends::tell_lmm;
 use settings::COUNT;
 use settings::PEERS;
 use spelling::write_word;
-use statelayout::StateArrays;
+use state::StateArrays;
 use stateoctets::state_octets;
 
 // 261: an LMM.

@@ -26,42 +26,22 @@ use octets::parts::copy_octets;
 use receive::on_frame;
 use spelling::write_word;
 use start::new_setting;
+use state::StateArrays;
 use statein::state_in;
 use statelayout::STATE;
-use statelayout::StateArrays;
 use tick::tick;
 
-// 257: the state that the setting starts with, zeros where it is refused.
+// 257: what the setting hands out becomes the held state: the state that it starts with, zeros where it is refused.
 pub(crate) fn run_setting(held: Held, call: &[u8; MOST], line: &mut [u8]) -> Ran {
     let read = settings(call);
-    let mut after = held.state;
-    let mut set = read.set;
-    let mut names = read.names;
-    let mut ids = read.ids;
-    let mut timers = after.timers;
-    let mut rdi = after.rdi;
-    let mut run = after.run;
-    let mut totals = after.totals;
-    let answer = new_setting(
-        &mut set,
-        &mut names,
-        &mut ids,
-        &mut timers,
-        &mut rdi,
-        &mut run,
-        &mut totals,
-    );
+    let set = read.set;
+    let names = read.names;
+    let ids = read.ids;
+    let started = new_setting(&set, &names, &ids);
+    let answer = started.answer;
+    let state = started.state;
     let told = settinganswer::tell(answer);
-    after = StateArrays {
-        set,
-        names,
-        ids,
-        timers,
-        rdi,
-        run,
-        totals,
-    };
-    stepped(held, after, done(line, told.refusal, b"set"))
+    stepped(held, state, done(line, told.refusal, b"set"))
 }
 
 // The side that an octet names.

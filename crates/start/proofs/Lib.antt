@@ -1,3 +1,2 @@
-pub mod Started
 pub mod Starts
 pub mod One

@@ -1,19 +1,22 @@
 -- The statement of specs/Start.antt. Assumes nothing.
 use Prim.Native.Nat.{ℕ, zero, suc, _≤_, zero-le}
 use mathlib.Core.Path.{_≡_, refl, _∙_}
+use mathlib.Core.Bool.{Bool, true, false, cond}
 use mathlib.Core.List.{List, [], _∷_}
 use native.Mathlib.Omega.{arith}
 use lib.ListN.{getD, replicate}
 use Rattle.whole.specs.Lists.{onFirst}
 use Rattle.whole.proofs.Loops.{changes}
-use Rattle.period.specs.Periods.{ticksOf, holdOf}
+use Rattle.period.specs.Periods.{holdOf}
 use Rattle.period.proofs.Laws.{period-laws}
-use Rattle.settings.specs.Settings.{slots, Settings}
-use Rattle.settings.specs.Valid.{Valid}
+use Rattle.settings.specs.Settings.{slots, Settings, settingsOf}
+use Rattle.settings.specs.Valid.{Valid, valid}
 use Rattle.session.proofs.Laws.{cleared-well}
+use Rattle.state.specs.State.{shown}
 use Rattle.state.specs.WellFormed.{WellFormed}
-use Rattle.start.specs.Start.{startOf, zeroState, Starts}
-use Rattle.start.proofs.Started.{agree}
+use Rattle.settinganswer.specs.declared.SettingAnswer.the-variants.{Invalid, Set}
+use Rattle.settinganswer.specs.Told.{told}
+use Rattle.start.specs.Start.{startOf, zeroState, afterSetting, answerOf, startedWith, noState, settingOf, numbersOf, Starts}
 
 -- zeros, at every place and past the end
 zeros-at : (n i : ℕ) → getD {A = ℕ} (replicate n 0) i 0 ≡ 0
@@ -50,5 +53,34 @@ well s v = record {
 zero-not : WellFormed zeroState → ⊥
 zero-not w = let h : 1 ≤ 0 = w .settings .some-period in omega arith
 
+-- ── valid or not ──
+
+tells : (b : Bool) → told (cond b Set Invalid) ≡ cond b (record { refusal = 0 }) (record { refusal = 4 })
+unfolding told
+tells true = refl
+tells false = refl
+
+pub agree : (s : Settings) → told (answerOf s) ≡ numbersOf s
+agree s = tells (valid s)
+
+module _ (words names ids : List ℕ) where
+  answered : (b : Bool) → cond b (startedWith words names ids) noState .answer ≡ cond b Set Invalid
+  unfolding startedWith noState
+  answered true = refl
+  answered false = refl
+
+  handed-out : (b : Bool) → shown (cond b (startedWith words names ids) noState .state) ≡ cond b (startOf (settingsOf words names ids)) zeroState
+  unfolding startedWith noState
+  handed-out true = refl
+  handed-out false = refl
+
+  pub answers : settingOf words names ids .answer ≡ answerOf (settingsOf words names ids)
+  unfolding settingOf
+  answers = answered (valid (settingsOf words names ids))
+
+  pub hands-out : shown (settingOf words names ids .state) ≡ afterSetting (settingsOf words names ids)
+  unfolding settingOf
+  hands-out = handed-out (valid (settingsOf words names ids))
+
 pub starts : Starts
-starts = record { well = well; zero-not = zero-not; agree = agree }
+starts = record { well = well; zero-not = zero-not; agree = agree; answers = answers; hands-out = hands-out }

@@ -3,22 +3,23 @@
 -- Definitions and the statement only.
 use Prim.Native.Nat.{ℕ}
 use mathlib.Core.Path.{_≡_}
-use mathlib.Core.Bool.{Bool, true, cond}
+use mathlib.Core.Bool.{cond}
 use mathlib.Core.List.{List, [], _∷_}
-use lib.IntN.{ℤ, pos}
-use lib.ListN.{replicate}
-use lib.ListN as ListN
+use lib.IntN.{pos}
+use lib.ListN.{replicate, set}
 use Rattle.whole.specs.Lists.{onFirst}
 use Rattle.period.specs.Periods.{ticksOf, holdOf}
 use Rattle.settings.specs.Settings.{slots, Settings, settingsOf}
 use Rattle.settings.specs.Valid.{Valid, valid}
 use Rattle.session.specs.Session.{clearedSession}
-use Rattle.state.specs.State.{State, viewOf}
+use Rattle.state.specs.State.{State, shown}
+use Rattle.state.specs.declared.StateArrays.{StateArrays}
 use Rattle.state.specs.WellFormed.{WellFormed}
 use Rattle.settinganswer.specs.declared.SettingAnswer.{SettingAnswer}
 use Rattle.settinganswer.specs.declared.SettingAnswer.the-variants.{Invalid, Set}
 use Rattle.settinganswer.specs.declared.SettingTold.{SettingTold}
 use Rattle.settinganswer.specs.Told.{told}
+use Rattle.start.specs.declared.Started.{Started}
 
 abbrev pub startOf : Settings → State
 startOf s = record {
@@ -38,26 +39,50 @@ startOf s = record {
 }
 
 -- every word, octet and total 0
-abbrev pub zeroState : State
-zeroState = viewOf (replicate 4 0) (replicate 60 0) (replicate slots 0) (replicate slots 0) (replicate slots 0) (replicate 15 0) (pos 0 ∷ pos 0 ∷ [])
+abbrev pub zeroArrays : StateArrays
+zeroArrays = record {
+  set = replicate 4 0;
+  names = replicate 60 0;
+  ids = replicate slots 0;
+  timers = replicate slots 0;
+  rdi = replicate slots 0;
+  run = replicate 15 0;
+  totals = pos 0 ∷ pos 0 ∷ [];
+}
 
+abbrev pub zeroState : State
+zeroState = shown zeroArrays
+
+-- the state that a new setting hands out: that which it starts with, or, beside refusal 4, zeros
 abbrev pub afterSetting : Settings → State
 afterSetting s = cond (valid s) (startOf s) zeroState
 
 abbrev pub answerOf : Settings → SettingAnswer
 answerOf s = cond (valid s) Set Invalid
 
--- what then lies in the arrays, each of them whole: the settings as they were, the peers' timers at the hold time, a period to run; or zeros
-pub record Started (set names ids set′ names′ ids′ timers rdi run : List ℕ) (totals : List ℤ) : Type 0 where
-  pub words-are : set′ ≡ cond (valid (settingsOf set names ids)) set (replicate 4 0)
-  pub names-are : names′ ≡ cond (valid (settingsOf set names ids)) names (replicate 60 0)
-  pub ids-are : ids′ ≡ cond (valid (settingsOf set names ids)) ids (replicate slots 0)
-  pub timers-are : timers ≡ afterSetting (settingsOf set names ids) .timers
-  pub rdi-are : rdi ≡ replicate slots 0
-  pub run-is : run ≡ ListN.set (replicate 15 0) 6 (afterSetting (settingsOf set names ids) .next)
-  pub totals-are : totals ≡ pos 0 ∷ pos 0 ∷ []
-  -- which is the state that the setting starts with
-  pub view : viewOf set′ names′ ids′ timers rdi run totals ≡ afterSetting (settingsOf set names ids)
+-- ── as it lies in the arrays that are handed out, each of them whole ──
+
+-- the settings as they were lent, the peers' timers at the hold time, a period to run, and zeros
+abbrev pub startArrays : List ℕ → List ℕ → List ℕ → StateArrays
+startArrays words names ids = record {
+  set = words;
+  names = names;
+  ids = ids;
+  timers = startOf (settingsOf words names ids) .timers;
+  rdi = replicate slots 0;
+  run = set (replicate 15 0) 6 (ticksOf (settingsOf words names ids .period));
+  totals = pos 0 ∷ pos 0 ∷ [];
+}
+
+unfoldable pub startedWith : List ℕ → List ℕ → List ℕ → Started
+startedWith words names ids = record { answer = Set; state = startArrays words names ids }
+
+unfoldable pub noState : Started
+noState = record { answer = Invalid; state = zeroArrays }
+
+-- from settings as they lie: words, names, IDs
+unfoldable pub settingOf : List ℕ → List ℕ → List ℕ → Started
+settingOf words names ids = cond (valid (settingsOf words names ids)) (startedWith words names ids) noState
 
 -- ── in the paper's numbers ──
 
@@ -70,3 +95,6 @@ pub record Starts : Type 0 where
   pub well : (s : Settings) → Valid s → WellFormed (startOf s)
   pub zero-not : WellFormed zeroState → ⊥
   pub agree : (s : Settings) → told (answerOf s) ≡ numbersOf s
+  -- what lies in the arrays is the answer and the state of the definitions above
+  pub answers : (words names ids : List ℕ) → settingOf words names ids .answer ≡ answerOf (settingsOf words names ids)
+  pub hands-out : (words names ids : List ℕ) → shown (settingOf words names ids .state) ≡ afterSetting (settingsOf words names ids)

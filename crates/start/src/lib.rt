@@ -1,12 +1,10 @@
-// A new setting: the state that it starts with, or the all-zero state where it is not valid. It takes no old state.
+// A new setting: the state that it starts with, or the all-zero state where it is not valid. Settings are lent for reading and the state is
+// handed out by value, so that a refusal leaves all that was handed over: a box that runs is not touched by a setting that breaks a rule.
 ghost use mathlib.Core.Path.{_≡_};
-ghost use mathlib.Core.List.{[], _∷_};
-ghost use lib.IntN.{pos};
-ghost use lib.ListN.{replicate};
 ghost use Rattle.whole.specs.Lists.{onFirst};
-ghost use Rattle.settings.specs.Settings.{slots, settingsOf};
+ghost use Rattle.settings.specs.Settings.{slots, settingsOf, Shaped};
 ghost use Rattle.settinganswer.specs.Told.{told};
-ghost use Rattle.start.specs.Start.{answerOf, numbersOf, Started};
+ghost use Rattle.start.specs.Start.{noState, startedWith, settingOf, numbersOf};
 use period::hold_of;
 use period::ticks_of;
 use settinganswer::SettingAnswer;
@@ -15,29 +13,30 @@ use settings::PEERS;
 use settings::PERIOD;
 use settings::is_valid;
 use state::NEXT;
+use state::StateArrays;
 
-// Sets the running part of a state to zeros.
-fn zero_running(
-    timers: &mut [u32; PEERS],
-    rdi: &mut [u32; PEERS],
-    run: &mut [u32; 15],
-    totals: &mut [i64; 2],
-)
-    ensures { λ _. ⌜ (now (timers .exit) ≡ replicate slots 0) × (now (rdi .exit) ≡ replicate slots 0) × (now (run .exit) ≡ replicate 15 0) × (now (totals .exit) ≡ pos 0 ∷ pos 0 ∷ []) ⌝ }
-{
-    *timers = [0; PEERS];
-    *rdi = [0; PEERS];
-    *run = [0; 15];
-    *totals = [0; 2];
+// What a new setting is answered, and the state that it hands out.
+pub struct Started {
+    pub answer: SettingAnswer,
+    pub state: StateArrays,
 }
 
-// Sets the settings themselves to zeros.
-fn zero_settings(set: &mut [u32; 4], names: &mut [u8; 60], ids: &mut [u32; PEERS])
-    ensures { λ _. ⌜ (now (set .exit) ≡ replicate 4 0) × (now (names .exit) ≡ replicate 60 0) × (now (ids .exit) ≡ replicate slots 0) ⌝ }
+// Refusal 4, and a state of zeros.
+fn none() -> Started
+    ensures { λ r. ⌜ r ≡ noState ⌝ }
 {
-    *set = [0; 4];
-    *names = [0; 60];
-    *ids = [0; PEERS];
+    Started {
+        answer: SettingAnswer::Invalid,
+        state: StateArrays {
+            set: [0; 4],
+            names: [0; 60],
+            ids: [0; PEERS],
+            timers: [0; PEERS],
+            rdi: [0; PEERS],
+            run: [0; 15],
+            totals: [0; 2],
+        },
+    }
 }
 
 // Sets the used peers' timers to the hold time; all of them where the count is larger, which no valid setting's is.
@@ -56,28 +55,40 @@ fn start_timers(timers: &mut [u32], count: u32, hold: u32)
     }
 }
 
-// Takes the settings that lie in the arrays: the state starts with them, or all of it is 0 where they are not valid. It takes no old state: lend
-// it spare arrays to try a setting beside a box that runs.
-pub fn new_setting(
-    set: &mut [u32; 4],
-    names: &mut [u8; 60],
-    ids: &mut [u32; PEERS],
-    timers: &mut [u32; PEERS],
-    rdi: &mut [u32; PEERS],
-    run: &mut [u32; 15],
-    totals: &mut [i64; 2],
-) -> SettingAnswer
-    ensures { λ r. ⌜ (r ≡ answerOf (settingsOf (now (set .entry)) (now (names .entry)) (now (ids .entry)))) × (told r ≡ numbersOf (settingsOf (now (set .entry)) (now (names .entry)) (now (ids .entry)))) ⌝ }
-    ensures { λ _. ⌜ Started (now (set .entry)) (now (names .entry)) (now (ids .entry)) (now (set .exit)) (now (names .exit)) (now (ids .exit)) (now (timers .exit)) (now (rdi .exit)) (now (run .exit)) (now (totals .exit)) ⌝ }
+// The state that valid settings start with.
+fn begin(set: &[u32; 4], names: &[u8; 60], ids: &[u32; PEERS]) -> Started
+    ensures { λ r. ⌜ r ≡ startedWith (now (set .entry)) (now (names .entry)) (now (ids .entry)) ⌝ }
 {
-    zero_running(timers, rdi, run, totals);
-    if !is_valid(set, names, ids) {
-        zero_settings(set, names, ids);
-        return SettingAnswer::Invalid;
-    }
     let period = set[PERIOD];
-    let count = set[COUNT];
-    start_timers(timers, count, hold_of(period));
+    let mut timers = [0; PEERS];
+    start_timers(&mut timers, set[COUNT], hold_of(period));
+    let mut run = [0; 15];
     run[NEXT] = ticks_of(period);
-    SettingAnswer::Set
+    Started {
+        answer: SettingAnswer::Set,
+        state: StateArrays {
+            set: *set,
+            names: *names,
+            ids: *ids,
+            timers,
+            rdi: [0; PEERS],
+            run,
+            totals: [0; 2],
+        },
+    }
+}
+
+// Takes settings as they lie: the state that they start with, or all zeros where they are not valid. It takes no old state.
+pub fn new_setting(set: &[u32; 4], names: &[u8; 60], ids: &[u32; PEERS]) -> Started
+    ensures { λ r. ⌜ r ≡ settingOf (now (set .entry)) (now (names .entry)) (now (ids .entry)) ⌝ }
+    ensures { λ r. ⌜ told (r .answer) ≡ numbersOf (settingsOf (now (set .entry)) (now (names .entry)) (now (ids .entry))) ⌝ }
+    ensures { λ _. ⌜ Shaped slots (settingsOf (now (set .entry)) (now (names .entry)) (now (ids .entry))) ⌝ }
+{
+    // a view of an array tells its length, and costs nothing
+    let _names: &[u8] = names;
+    let _ids: &[u32] = ids;
+    if !is_valid(set, names, ids) {
+        return none();
+    }
+    begin(set, names, ids)
 }

@@ -13,8 +13,8 @@ use sessionlayout::SESSION;
 use settings::PEERS;
 use settingsbody::BODY;
 use settingsbody::settings_of;
+use state::StateArrays;
 use statelayout::STATE;
-use statelayout::StateArrays;
 
 // The words of the slots from a place on, n octets each.
 fn words_in(from: &[u8], at: usize, n: usize) -> [u32; PEERS]

@@ -12,15 +12,15 @@ use Rattle.whole.proofs.Apart.{laid-whole}
 use Rattle.whole.proofs.Pieces.{first, more}
 use Rattle.octets.specs.Numbers.{littleEndian, Octets}
 use Rattle.octets.proofs.Laws.{part-octets, read-again}
-use Rattle.settings.specs.Settings.{slots}
-use Rattle.state.specs.State.{State}
-use Rattle.settingsbody.specs.Body.{settingsBody, settingsIn, Shaped}
+use Rattle.settings.specs.Settings.{slots, Shaped}
+use Rattle.state.specs.State.{State, shown}
+use Rattle.settingsbody.specs.Body.{settingsBody, settingsIn}
 use Rattle.settingsbody.proofs.Bodies.{long, again, shaped}
 use Rattle.settingsbody.proofs.Lying.{lying}
 use Rattle.sessionlayout.specs.Session.{field, fieldAt, sessionOctets, sessionAt}
 use Rattle.sessionlayout.proofs.Session as session
 use Rattle.statelayout.specs.Words.{wordsOctets, wordsIn}
-use Rattle.statelayout.specs.State.{runningOctets, stateOctets, stateAt, arraysOf, shown, StatesInOctets}
+use Rattle.statelayout.specs.State.{runningOctets, stateOctets, stateAt, arraysOf, StatesInOctets}
 use Rattle.statelayout.proofs.Words.{words-long, words-again}
 
 -- ── how long ──
@@ -139,11 +139,16 @@ module _ (octets : List ℕ) where
           ← part-append 81 48 28 octets,
         )
 
+    -- three parts side by side are all the octets
+    parts-again : {first second third : List ℕ} → first ≡ part 0 81 octets → second ≡ part 81 76 octets → third ≡ part 157 37 octets
+        → first ++ second ++ third ≡ octets
+    parts-again e1 e2 e3 =
+        rw (e1, e2, e3, ← part-append 0 81 76 octets, ← part-append 0 157 37 octets)
+        (ap (λ (n : ℕ). part 0 n octets) (sym l) ∙ part-all octets)
+
     state-again : stateOctets (stateAt octets) ≡ octets
     unfolding stateOctets
-    state-again =
-        rw (settings-again, running-again, session-again, ← part-append 0 81 76 octets, ← part-append 0 157 37 octets)
-        (ap (λ (n : ℕ). part 0 n octets) (sym l) ∙ part-all octets)
+    state-again = parts-again settings-again running-again session-again
 
     pub put-shown : stateOctets (shown (arraysOf (stateAt octets))) ≡ octets
     put-shown = ap stateOctets (lies (omega arith)) ∙ state-again

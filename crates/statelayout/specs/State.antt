@@ -8,12 +8,12 @@ use lib.ListN.{length, drop}
 use Rattle.whole.specs.Lists.{part}
 use Rattle.octets.specs.Numbers.{Octets}
 use Rattle.session.specs.declared.LossSession.{LossSession}
-use Rattle.settings.specs.Settings.{slots}
-use Rattle.state.specs.State.{State, viewOf}
-use Rattle.settingsbody.specs.Body.{settingsBody, settingsIn, Shaped}
+use Rattle.settings.specs.Settings.{slots, Shaped}
+use Rattle.state.specs.State.{State, shown}
+use Rattle.state.specs.declared.StateArrays.{StateArrays}
+use Rattle.settingsbody.specs.Body.{settingsBody, settingsIn}
 use Rattle.settingsbody.specs.Lying.{setOf, namesOf}
 use Rattle.sessionlayout.specs.Session.{fieldAt, sessionOctets, sessionAt}
-use Rattle.statelayout.specs.declared.StateArrays.{StateArrays}
 use Rattle.statelayout.specs.Words.{wordsOctets, wordsIn}
 
 -- what stands between settings and session: the counts, the slots' timers and RDI, the other words
@@ -99,10 +99,6 @@ arraysOf s = record {
   run = runOf s;
   totals = s .session .near ∷ s .session .far ∷ [];
 }
-
--- the state that such arrays show
-abbrev pub shown : StateArrays → State
-shown a = viewOf (a .set) (a .names) (a .ids) (a .timers) (a .rdi) (a .run) (a .totals)
 
 -- what is said of every state in octets, well formed or not
 pub record StatesInOctets : Type 0 where

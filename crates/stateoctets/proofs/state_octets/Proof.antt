@@ -5,10 +5,9 @@ use Prim.Native.Nat.{ℕ}
 use denote.Ref.{now}
 use lib.ListN.{length, replicate}
 use Rattle.whole.specs.Lists.{laid}
-use Rattle.settings.specs.Settings.{slots, settingsOf}
+use Rattle.settings.specs.Settings.{slots, settingsOf, Shaped}
 use Rattle.state.specs.State.{lying}
-use Rattle.settingsbody.specs.Body.{Shaped}
-use Rattle.settingsbody.proofs.Lying.{lying-shaped}
+use Rattle.settings.proofs.Shape.{lying-shaped}
 use Rattle.sessionlayout.specs.Session.{sessionOctets}
 use Rattle.statelayout.proofs.State.{state-laid}
 use borrow.Author.Needs.{needs}

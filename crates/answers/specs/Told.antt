@@ -19,8 +19,9 @@ dropOf Destination = 6
 dropOf Value = 7
 dropOf TooLarge = 8
 
-abbrev pub zero : ℤ
-zero = pos 0
+-- a value that an answer does not have
+abbrev pub absent : ℤ
+absent = pos 0
 
 -- refusal, drop, what was done (a number of ours, 0 beside a refusal or a drop), length, near and far loss, two-way delay, one-way far and near
 abbrev pub numbers : ℕ → ℕ → ℕ → ℕ → ℤ → ℤ → ℤ → ℤ → ℤ → FrameTold
@@ -37,10 +38,10 @@ numbers refusal drop done length near far twoway onewayfar onewaynear = record {
 }
 
 abbrev pub refused : ℕ → FrameTold
-refused n = numbers n 0 0 0 zero zero zero zero zero
+refused n = numbers n 0 0 0 absent absent absent absent absent
 
 abbrev pub dropped : ℕ → FrameTold
-dropped n = numbers 0 n 0 0 zero zero zero zero zero
+dropped n = numbers 0 n 0 0 absent absent absent absent absent
 
 unfoldable pub told : FrameAnswer → FrameTold
 told NotWellFormed = refused 2
@@ -49,13 +50,13 @@ told BadStamp = refused 6
 told NoRoom = refused 3
 told Full = refused 5
 told (Dropped drop) = dropped (dropOf drop)
-told Passed = numbers 0 0 1 0 zero zero zero zero zero
-told Taken = numbers 0 0 2 0 zero zero zero zero zero
-told (Replied n) = numbers 0 0 3 n zero zero zero zero zero
-told First = numbers 0 0 4 0 zero zero zero zero zero
-told (Measured near far) = numbers 0 0 5 0 near far zero zero zero
-told (TwoWay twoway) = numbers 0 0 6 0 zero zero twoway zero zero
-told (AllWays twoway far near) = numbers 0 0 7 0 zero zero twoway far near
+told Passed = numbers 0 0 1 0 absent absent absent absent absent
+told Taken = numbers 0 0 2 0 absent absent absent absent absent
+told (Replied n) = numbers 0 0 3 n absent absent absent absent absent
+told First = numbers 0 0 4 0 absent absent absent absent absent
+told (Measured near far) = numbers 0 0 5 0 near far absent absent absent
+told (TwoWay twoway) = numbers 0 0 6 0 absent absent twoway absent absent
+told (AllWays twoway far near) = numbers 0 0 7 0 absent absent twoway far near
 
 -- what is said of every answer
 pub record FrameNumbers : Type 0 where

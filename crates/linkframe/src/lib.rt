@@ -5,8 +5,9 @@
 ghost use mathlib.Core.Path.{_≡_};
 ghost use Rattle.state.specs.State.{lying};
 ghost use Rattle.places.specs.Stored.{Whole};
-ghost use Rattle.answers.specs.Told.{told as frameTold};
+ghost use Rattle.stamps.specs.Stamps.{Wire};
 ghost use Rattle.receive.specs.Frame.{frameOf};
+ghost use Rattle.receive.specs.Numbers.{numbersOf};
 ghost use Rattle.linkframe.specs.Sides.{sideOf};
 use answers::FrameTold;
 use class::Side;
@@ -40,9 +41,10 @@ pub extern "C" fn linkbox_frame(
     transmit: Stamp,
     out: &mut [u8],
 ) -> FrameTold
-    ensures { λ r. ⌜ r ≡ frameTold (frameOf (lying (set .entry) (names .entry) (ids .entry) (timers .entry) (rdi .entry) (run .entry) (totals .entry)) (sideOf side) (now (frame .entry)) receive transmit (now (out .entry)) .answer) ⌝ }
+    ensures { λ r. ⌜ r ≡ numbersOf (lying (set .entry) (names .entry) (ids .entry) (timers .entry) (rdi .entry) (run .entry) (totals .entry)) (sideOf side) (now (frame .entry)) receive transmit (now (out .entry)) ⌝ }
     ensures { λ _. ⌜ (lying (set .entry) (names .entry) (ids .entry) (timers .exit) (rdi .exit) (run .exit) (totals .exit) ≡ frameOf (lying (set .entry) (names .entry) (ids .entry) (timers .entry) (rdi .entry) (run .entry) (totals .entry)) (sideOf side) (now (frame .entry)) receive transmit (now (out .entry)) .state) × (now (out .exit) ≡ frameOf (lying (set .entry) (names .entry) (ids .entry) (timers .entry) (rdi .entry) (run .entry) (totals .entry)) (sideOf side) (now (frame .entry)) receive transmit (now (out .entry)) .buffer) ⌝ }
     ensures { λ _. ⌜ Whole (now (run .exit)) (now (totals .exit)) ⌝ }
+    ensures { λ _. ⌜ Wire receive × Wire transmit ⌝ }
 {
     let answer = receive::on_frame(
         set,

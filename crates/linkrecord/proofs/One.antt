@@ -12,7 +12,7 @@ linkbox-read-settings-one κs a r r′ s s′ p q = p ∙ sym q
 
 pub linkbox-write-settings-one : (κs : _) (a : _) (r r′ : _) (s s′ : _) → write-settings.Post κs a r s → write-settings.Post κs a r′ s′
     → (r ≡ r′) × (now (s .0) ≡ now (s′ .0))
-linkbox-write-settings-one κs a r r′ s s′ p q = (p .0 ∙ sym (q .0), p .1 ∙ sym (q .1))
+linkbox-write-settings-one κs a r r′ s s′ p q = (p .0 .0 ∙ sym (q .0 .0), p .0 .1 ∙ sym (q .0 .1))
 
 pub linkbox-read-line-one : (κs : _) (a : _) (r r′ : _) (s s′ : _) → read-line.Post κs a r s → read-line.Post κs a r′ s′ → r ≡ r′
 linkbox-read-line-one κs a r r′ s s′ p q = p ∙ sym q

@@ -2,7 +2,7 @@
 // Any content of the memory is a value. What a caller sees to is that the pointers are to memory of these sizes, and that what is written overlaps nothing
 // else that is handed over.
 ghost use mathlib.Core.Path.{_≡_};
-ghost use Rattle.settings.specs.Settings.{settingsOf};
+ghost use Rattle.settings.specs.Settings.{slots, settingsOf, Shaped};
 ghost use Rattle.settingsrecord.specs.SettingsRecord.{readSettings, writeSettings, writtenNumbers as settingsNumbers};
 ghost use Rattle.lossrecord.specs.Calls.{writeLine, writtenNumbers as lineNumbers, numbersOf as readNumbers};
 use lossrecord::LineTold;
@@ -28,6 +28,7 @@ pub extern "C" fn linkbox_write_settings(
     ids: &[u32; PEERS],
 ) -> RecordTold
     ensures { λ r. ⌜ (r ≡ settingsNumbers (settingsOf (now (set .entry)) (now (names .entry)) (now (ids .entry))) (now (into .entry))) × (now (into .exit) ≡ writeSettings (settingsOf (now (set .entry)) (now (names .entry)) (now (ids .entry))) (now (into .entry)) .buffer) ⌝ }
+    ensures { λ _. ⌜ Shaped slots (settingsOf (now (set .entry)) (now (names .entry)) (now (ids .entry))) ⌝ }
 {
     let answer = settingsrecord::write_settings(into, set, names, ids);
     record::tell(answer)

@@ -23,4 +23,4 @@ linkbox-send-lmm-one κs a r r′ s s′ p q = (p .0 ∙ sym (q .0), p .1 ∙ sy
 
 pub linkbox-send-dmm-one : (κs : _) (a : _) (r r′ : _) (s s′ : _) → send-dmm.Post κs a r s → send-dmm.Post κs a r′ s′
     → (r ≡ r′) × (now (s .1 .1 .1 .1 .1 .1 .1 .1 .0) ≡ now (s′ .1 .1 .1 .1 .1 .1 .1 .1 .0))
-linkbox-send-dmm-one κs a r r′ s s′ p q = (p .0 ∙ sym (q .0), p .1 ∙ sym (q .1))
+linkbox-send-dmm-one κs a r r′ s s′ p q = (p .0 .0 ∙ sym (q .0 .0), p .0 .1 ∙ sym (q .0 .1))

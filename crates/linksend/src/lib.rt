@@ -5,6 +5,7 @@
 ghost use mathlib.Core.Path.{_≡_};
 ghost use Rattle.state.specs.State.{lying};
 ghost use Rattle.places.specs.Stored.{Whole};
+ghost use Rattle.stamps.specs.Stamps.{Wire};
 ghost use Rattle.tick.specs.Tick.{tickOf, numbersOf as tickNumbers};
 ghost use Rattle.sendlmm.specs.Lmm.{sendLmm, lmmNumbers};
 ghost use Rattle.senddmm.specs.Dmm.{sendDmm, dmmNumbers};
@@ -69,6 +70,7 @@ pub extern "C" fn linkbox_send_dmm(
     out: &mut [u8],
 ) -> WrittenTold
     ensures { λ r. ⌜ (r ≡ dmmNumbers (lying (set .entry) (names .entry) (ids .entry) (timers .entry) (rdi .entry) (run .entry) (totals .entry)) stamp (now (out .entry))) × (now (out .exit) ≡ sendDmm (lying (set .entry) (names .entry) (ids .entry) (timers .entry) (rdi .entry) (run .entry) (totals .entry)) stamp (now (out .entry)) .buffer) ⌝ }
+    ensures { λ _. ⌜ Wire stamp ⌝ }
 {
     let answer = send_dmm(set, names, ids, timers, rdi, run, totals, stamp, out);
     tell_dmm(answer)

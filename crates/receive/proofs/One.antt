@@ -15,5 +15,5 @@ pub on-frame-one : (κs : _) (a : _) (r r′ : _) (s s′ : _) → on-frame.Post
     × (now (s .1 .1 .1 .1 .1 .1 .1 .1 .1 .1 .1 .0) ≡ now (s′ .1 .1 .1 .1 .1 .1 .1 .1 .1 .1 .1 .0))
 on-frame-one κs a r r′ s s′ p q =
     let e = p .0 ∙ sym (q .0) in
-    let o = stores (now (a .0)) (now (a .1 .0)) (now (a .1 .1 .0)) .one (now (s .1 .1 .1 .0)) (now (s .1 .1 .1 .1 .0)) (now (s .1 .1 .1 .1 .1 .0)) (now (s .1 .1 .1 .1 .1 .1 .0)) (now (s′ .1 .1 .1 .0)) (now (s′ .1 .1 .1 .1 .0)) (now (s′ .1 .1 .1 .1 .1 .0)) (now (s′ .1 .1 .1 .1 .1 .1 .0)) (p .1 .1) (q .1 .1) (ap (λ (x : Framed). x .state) e) in
+    let o = stores (now (a .0)) (now (a .1 .0)) (now (a .1 .1 .0)) .one (now (s .1 .1 .1 .0)) (now (s .1 .1 .1 .1 .0)) (now (s .1 .1 .1 .1 .1 .0)) (now (s .1 .1 .1 .1 .1 .1 .0)) (now (s′ .1 .1 .1 .0)) (now (s′ .1 .1 .1 .1 .0)) (now (s′ .1 .1 .1 .1 .1 .0)) (now (s′ .1 .1 .1 .1 .1 .1 .0)) (p .1 .1 .0) (q .1 .1 .0) (ap (λ (x : Framed). x .state) e) in
     (ap (λ (x : Framed). x .answer) e, o .0, o .1, o .2, o .3, ap (λ (x : Framed). x .buffer) e)

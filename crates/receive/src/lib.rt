@@ -2,9 +2,11 @@
 ghost use mathlib.Core.Path.{_≡_};
 ghost use Rattle.state.specs.State.{lying};
 ghost use Rattle.places.specs.Stored.{Whole};
+ghost use Rattle.stamps.specs.Stamps.{Wire};
 ghost use Rattle.answers.specs.Told.{told};
 ghost use Rattle.carryout.specs.CarryOut.{framed};
 ghost use Rattle.receive.specs.Frame.{frameOf};
+ghost use Rattle.receive.specs.Numbers.{numbersOf};
 use answers::FrameAnswer;
 use carryout::carry_out;
 use class::Side;
@@ -32,8 +34,9 @@ pub fn on_frame(
     out: &mut [u8],
 ) -> FrameAnswer
     ensures { λ r. ⌜ framed r (lying (set .entry) (names .entry) (ids .entry) (timers .exit) (rdi .exit) (run .exit) (totals .exit)) (now (out .exit)) ≡ frameOf (lying (set .entry) (names .entry) (ids .entry) (timers .entry) (rdi .entry) (run .entry) (totals .entry)) side (now (frame .entry)) receive transmit (now (out .entry)) ⌝ }
-    ensures { λ r. ⌜ told r ≡ told (frameOf (lying (set .entry) (names .entry) (ids .entry) (timers .entry) (rdi .entry) (run .entry) (totals .entry)) side (now (frame .entry)) receive transmit (now (out .entry)) .answer) ⌝ }
+    ensures { λ r. ⌜ told r ≡ numbersOf (lying (set .entry) (names .entry) (ids .entry) (timers .entry) (rdi .entry) (run .entry) (totals .entry)) side (now (frame .entry)) receive transmit (now (out .entry)) ⌝ }
     ensures { λ _. ⌜ Whole (now (run .exit)) (now (totals .exit)) ⌝ }
+    ensures { λ _. ⌜ Wire receive × Wire transmit ⌝ }
 {
     // a view of an array tells its length, and costs nothing
     let _words: &[u32] = run;

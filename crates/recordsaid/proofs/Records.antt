@@ -11,7 +11,6 @@ use lib.ListN.{length, getD, replicate}
 use borrow.Author.Tests.{ltb-true, ltb-false}
 use Rattle.whole.specs.Lists.{laid}
 use Rattle.whole.proofs.Tests.{known}
-use Rattle.settings.specs.Settings.{Settings, slots}
 use Rattle.settings.specs.Valid.{Valid, valid}
 use Rattle.settings.proofs.Rules.{valid-is}
 use Rattle.record.specs.declared.RecordAnswer.{RecordAnswer}
@@ -20,13 +19,12 @@ use Rattle.octets.specs.Numbers.{inOctets, octetsLowestFirst}
 use Rattle.record.specs.Record.{headOf, recordOf, IsRecord, NoRecord, isRecord}
 use Rattle.record.specs.Writing.{RecordEnd, told}
 use Rattle.record.proofs.Laws.{records}
-use Rattle.settingsbody.specs.Body.{Shaped}
-use Rattle.settingsrecord.specs.SettingsRecord.{settingsRecord, settingsAt, settingsRead, readSettings, writeSettings}
+use Rattle.settingsrecord.specs.SettingsRecord.{settingsRecord, settingsAt, readSettings, writeSettings}
 use Rattle.settingsrecord.proofs.Records.{settings-records}
 use Rattle.lossrecord.specs.declared.LossLine.{LossLine}
 use Rattle.lossrecord.specs.declared.LineAnswer.{LineAnswer}
 use Rattle.lossrecord.specs.Line.{KeepsRules, keepsRules, lineBody, lineRecord, lineIn}
-use Rattle.lossrecord.specs.Calls.{readLine, writeLine}
+use Rattle.lossrecord.specs.Calls.{writeLine}
 use Rattle.lossrecord.proofs.Calls.{loss-records, at-line}
 use Rattle.recordsaid.specs.Records.{RecordCall, read-settings, write-settings, read-line, write-line, RecordTells, refused, settings, line, written, RecordLeft, leaving, Handed, RecordSaid, settings-7-record, settings-7-rule, settings-given, settings-4, settings-3, settings-written, line-7-record, line-7-rule, line-given, line-4, line-3, line-written, writeTells, lineTells, ourRecords, FollowsRecords, RecordsFollow}
 

@@ -5,10 +5,9 @@ use mathlib.Core.List.{[]}
 use mathlib.Core.Bool.{cond}
 use lib.Dec.{eqb}
 use denote.Ref.{now}
-use Rattle.settings.specs.Settings.{slots, settingsOf}
+use Rattle.settings.specs.Settings.{settingsOf}
 use Rattle.record.specs.Writing.{RecordEnd}
 use Rattle.settingsbody.specs.declared.SettingsRead.{SettingsRead}
-use Rattle.settingsbody.specs.Body.{Shaped}
 use Rattle.settingsrecord.specs.SettingsRecord.{settingsRead}
 use Rattle.settingsrecord.proofs.read_settings.Reads as read-settings
 use Rattle.settingsrecord.proofs.write_settings.Reads as write-settings
@@ -25,10 +24,9 @@ read-settings-follows κs a r s p o q =
     ap (λ (t : SettingsRead). leaving (cond (eqb (t .refusal) 0) (settings (settingsRead t)) (refused (t .refusal))) []) p ∙ records-follow .ours .follows _ o tt q
 
 pub write-settings-follows : (κs : _) (a : _) (r : _) (s : _) → write-settings.Post κs a r s → (o : RecordLeft)
-    → Shaped slots (settingsOf (now (a .1 .0)) (now (a .1 .1 .0)) (now (a .1 .1 .1 .0)))
     → RecordSaid (call.write-settings (settingsOf (now (a .1 .0)) (now (a .1 .1 .0)) (now (a .1 .1 .1 .0))) (now (a .0))) o
     → leaving (writeTells r) (now (s .0)) ≡ o
-write-settings-follows κs a r s p o h q = ap (λ (e : RecordEnd). leaving (writeTells (e .answer)) (e .buffer)) (p .0) ∙ records-follow .ours .follows _ o h q
+write-settings-follows κs a r s p o q = ap (λ (e : RecordEnd). leaving (writeTells (e .answer)) (e .buffer)) (p .0 .0) ∙ records-follow .ours .follows _ o (p .1) q
 
 pub read-line-follows : (κs : _) (a : _) (r : _) (s : _) → read-line.Post κs a r s → (o : RecordLeft) → RecordSaid (call.read-line (now (a .0))) o → leaving (lineTells r) [] ≡ o
 read-line-follows κs a r s p o q = ap (λ (t : LineAnswer). leaving (lineTells t) []) (p .0) ∙ records-follow .ours .follows _ o tt q

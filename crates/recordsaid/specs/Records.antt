@@ -7,13 +7,12 @@ use mathlib.Core.Bool.{cond}
 use lib.Dec.{eqb}
 use lib.ListN.{length}
 use Rattle.whole.specs.Lists.{laid}
-use Rattle.settings.specs.Settings.{Settings, slots}
+use Rattle.settings.specs.Settings.{Settings, slots, Shaped}
 use Rattle.settings.specs.Valid.{Valid}
 use Rattle.record.specs.declared.RecordAnswer.{RecordAnswer}
 use Rattle.record.specs.declared.RecordAnswer.the-variants as stored
 use Rattle.record.specs.Record.{IsRecord, NoRecord}
 use Rattle.record.specs.Writing.{RecordEnd}
-use Rattle.settingsbody.specs.Body.{Shaped}
 use Rattle.settingsrecord.specs.SettingsRecord.{settingsRecord, settingsAt, settingsRead, readSettings, writeSettings}
 use Rattle.lossrecord.specs.declared.LossLine.{LossLine}
 use Rattle.lossrecord.specs.declared.LineAnswer.{LineAnswer}

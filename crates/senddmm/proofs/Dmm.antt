@@ -2,7 +2,7 @@
 use Prim.Native.Nat.{ℕ, _≤_, _<_}
 use mathlib.Core.Path.{_≡_, refl, sym, ap, _∙_}
 use mathlib.Core.Bool.{Bool, true, false, not, false≢true}
-use mathlib.Core.List.{List}
+use mathlib.Core.List.{List, [], _∷_}
 use mathlib.Core.Logic.{⊎-elim}
 use lib.Dec.{ltb, eqb}
 use lib.ListN.{length}
@@ -32,6 +32,20 @@ numbered BadStamp = 6
 numbered NoRoom = 3
 numbered Sent = 0
 
+-- of three rules the second decides, or the third, or none
+module _ {b d : Bool} (f : Bool) (x y z u : DmmEnd) (first : b ≡ true) where
+  second : d ≡ false → choose ((not b, x) ∷ (not d, y) ∷ (f, z) ∷ []) u ≡ y
+  unfolding choose
+  second h = rw (first, h)
+
+  third : d ≡ true → f ≡ true → choose ((not b, x) ∷ (not d, y) ∷ (f, z) ∷ []) u ≡ z
+  unfolding choose
+  third h k = rw (first, h, k)
+
+  none-of : d ≡ true → f ≡ false → choose ((not b, x) ∷ (not d, y) ∷ (f, z) ∷ []) u ≡ u
+  unfolding choose
+  none-of h k = rw (first, h, k)
+
 module _ (s : State) (stamp : Stamp) (buffer : List ℕ) where
   abbrev o : DmmEnd
   o = sendDmm s stamp buffer
@@ -42,22 +56,37 @@ module _ (s : State) (stamp : Stamp) (buffer : List ℕ) where
 
   -- ── one law for each way ──
 
+  abbrev few : Bool
+  few = ltb (length buffer) 51
+
+  abbrev bad-end : DmmEnd
+  bad-end = dmmEnded NotWellFormed buffer
+
+  abbrev stamp-end : DmmEnd
+  stamp-end = dmmEnded BadStamp buffer
+
+  abbrev short-end : DmmEnd
+  short-end = dmmEnded NoRoom buffer
+
+  abbrev sent-end : DmmEnd
+  sent-end = dmmEnded Sent (laid 0 (dmmOf s stamp) buffer)
+
   at-2 : wellFormed s ≡ false → o ≡ dmmEnded NotWellFormed buffer
   unfolding sendDmm choose
   at-2 w = rw w
 
-  at-6 : wellFormed s ≡ true → good stamp ≡ false → o ≡ dmmEnded BadStamp buffer
-  unfolding sendDmm choose
-  at-6 w g = rw (w, g)
+  module _ (w : wellFormed s ≡ true) where
+    at-6 : good stamp ≡ false → o ≡ dmmEnded BadStamp buffer
+    unfolding sendDmm
+    at-6 g = second few bad-end stamp-end short-end sent-end w g
 
-  module _ (w : wellFormed s ≡ true) (g : good stamp ≡ true) where
-    at-3 : length buffer < 51 → o ≡ dmmEnded NoRoom buffer
-    unfolding sendDmm choose
-    at-3 h = rw (w, g, lt-ltb (length buffer) 51 h)
+    at-3 : good stamp ≡ true → length buffer < 51 → o ≡ dmmEnded NoRoom buffer
+    unfolding sendDmm
+    at-3 g h = third few bad-end stamp-end short-end sent-end w g (lt-ltb (length buffer) 51 h)
 
-    at-sent : 51 ≤ length buffer → o ≡ dmmEnded Sent (laid 0 (dmmOf s stamp) buffer)
-    unfolding sendDmm choose
-    at-sent h = rw (w, g, le-ltb (length buffer) 51 h)
+    at-sent : good stamp ≡ true → 51 ≤ length buffer → o ≡ dmmEnded Sent (laid 0 (dmmOf s stamp) buffer)
+    unfolding sendDmm
+    at-sent g h = none-of few bad-end stamp-end short-end sent-end w g (le-ltb (length buffer) 51 h)
 
   -- ── the same from what the code knows ──
 

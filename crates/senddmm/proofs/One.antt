@@ -8,5 +8,5 @@ use Rattle.senddmm.proofs.send_dmm.Reads as send-dmm
 pub send-dmm-one : (κs : _) (a : _) (r r′ : _) (s s′ : _) → send-dmm.Post κs a r s → send-dmm.Post κs a r′ s′
     → (r ≡ r′) × (now (s .1 .1 .1 .1 .1 .1 .1 .1 .0) ≡ now (s′ .1 .1 .1 .1 .1 .1 .1 .1 .0))
 send-dmm-one κs a r r′ s s′ p q =
-    let e = p .0 ∙ sym (q .0) in
+    let e = p .0 .0 ∙ sym (q .0 .0) in
     (ap (λ (t : DmmEnd). t .answer) e, ap (λ (t : DmmEnd). t .buffer) e)

@@ -1,6 +1,7 @@
 // Send DMM: the caller asks for a DMM to the loss peer. The state is only read.
 ghost use mathlib.Core.Path.{_≡_};
 ghost use Rattle.state.specs.State.{lying};
+ghost use Rattle.stamps.specs.Stamps.{Wire};
 ghost use Rattle.sends.specs.Told.{dmmTold};
 ghost use Rattle.senddmm.specs.Dmm.{dmmEnded, sendDmm, dmmNumbers};
 use message::parts::Written;
@@ -25,6 +26,7 @@ pub fn send_dmm(
     out: &mut [u8],
 ) -> DmmAnswer
     ensures { λ r. ⌜ (dmmEnded r (now (out .exit)) ≡ sendDmm (lying (set .entry) (names .entry) (ids .entry) (timers .entry) (rdi .entry) (run .entry) (totals .entry)) stamp (now (out .entry))) × (dmmTold r ≡ dmmNumbers (lying (set .entry) (names .entry) (ids .entry) (timers .entry) (rdi .entry) (run .entry) (totals .entry)) stamp (now (out .entry))) ⌝ }
+    ensures { λ _. ⌜ Wire stamp ⌝ }
 {
     if !is_well_formed(set, names, ids, timers, rdi, run, totals) {
         return DmmAnswer::NotWellFormed;

@@ -1,7 +1,8 @@
 -- What a box is set to, and where it lies. The paper, "Numbers". Definitions only.
 use Prim.Native.Nat.{ℕ}
+use mathlib.Core.Path.{_≡_}
 use mathlib.Core.List.{List}
-use lib.ListN.{getD}
+use lib.ListN.{length, getD}
 use Rattle.whole.specs.Lists.{part}
 
 -- how many peers a box has room for: as many slots as the array of IDs has
@@ -40,3 +41,10 @@ settingsOf set names ids = record {
   meg = part 12 48 names;
   ids = ids;
 }
+
+-- settings of n slots have the lengths in which they are handed over: two addresses of six octets, a MEG ID of 48, an ID for each slot
+pub record Shaped (n : ℕ) (s : Settings) : Type 0 where
+  pub own : length (s .own) ≡ 6
+  pub losspeer : length (s .losspeer) ≡ 6
+  pub meg : length (s .meg) ≡ 48
+  pub ids : length (s .ids) ≡ n

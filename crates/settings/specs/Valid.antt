@@ -10,7 +10,7 @@ use lib.Dec.{leb, eqb}
 use lib.ListN.{length, getD}
 use Rattle.whole.specs.Lists.{same}
 use Rattle.peerids.specs.Ids.{mepGood, peersGood}
-use Rattle.settings.specs.Settings.{Settings}
+use Rattle.settings.specs.Settings.{slots, Settings, Shaped}
 
 -- ── what is meant ──
 
@@ -51,6 +51,7 @@ addressesGood own losspeer = eqb (groupBit own) 0 && eqb (groupBit losspeer) 0 &
 unfoldable pub valid : Settings → Bool
 valid s = numbersGood (s .level) (s .mep) (s .period) (s .count) && (addressesGood (s .own) (s .losspeer) && peersGood (s .count) (s .mep) (s .ids))
 
--- the test holds exactly where the rules do
+-- the test holds exactly where the rules do; and of valid settings, as they are handed over, the peers are 1 to 8
 pub record ValidIs : Type 0 where
   pub valid-is : (s : Settings) → (valid s ≡ true) ↔ Valid s
+  pub peers : (s : Settings) → Shaped slots s → Valid s → (1 ≤ s .count) × (s .count ≤ 8)

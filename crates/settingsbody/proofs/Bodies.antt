@@ -9,8 +9,8 @@ use Rattle.whole.specs.Lists.{part}
 use Rattle.whole.proofs.Lists.{part-append, part-here, part-all, drop-part, length-part}
 use Rattle.octets.specs.Numbers.{littleEndian, Octets}
 use Rattle.octets.proofs.Laws.{length-octets, number-here, read-again}
-use Rattle.settings.specs.Settings.{Settings}
-use Rattle.settingsbody.specs.Body.{field, fieldAt, fieldsBefore, idsOctets, idsIn, settingsBody, bodyLength, settingsIn, Shaped, FieldsHold, Bodies}
+use Rattle.settings.specs.Settings.{Settings, Shaped}
+use Rattle.settingsbody.specs.Body.{field, fieldAt, fieldsBefore, idsOctets, idsIn, settingsBody, bodyLength, settingsIn, FieldsHold, Bodies}
 use Rattle.settingsbody.proofs.Ids.{ids-long, read-long, ids-at, ids-back, ids-again}
 use Rattle.settingsbody.proofs.Laid.{fields-long}
 
@@ -86,12 +86,73 @@ module _ (n : ℕ) (s : Settings) (w : Shaped n s) where
   unfolding settingsBody
   ids-here = drop-at (fieldsBefore s) (idsOctets (s .ids)) 65 (fields-long n s w)
 
+-- settings made of their parts
+made : (s : Settings) {level mep period count : ℕ} {own losspeer meg ids : List ℕ}
+    → level ≡ s .level
+    → mep ≡ s .mep
+    → period ≡ s .period
+    → count ≡ s .count
+    → own ≡ s .own
+    → losspeer ≡ s .losspeer
+    → meg ≡ s .meg
+    → ids ≡ s .ids
+    → record {
+      level = level;
+      mep = mep;
+      period = period;
+      count = count;
+      own = own;
+      losspeer = losspeer;
+      meg = meg;
+      ids = ids;
+    } ≡ s
+made s e1 e2 e3 e4 e5 e6 e7 e8 = rw (e1, e2, e3, e4, e5, e6, e7, e8)
+
 pub back : (n : ℕ) (s : Settings) → Shaped n s → FieldsHold s → settingsIn n (settingsBody s) ≡ s
 back n s w k =
     let same : idsIn n (idsOctets (s .ids)) ≡ s .ids = ap (λ (m : ℕ). idsIn m (idsOctets (s .ids))) (sym (w .ids)) ∙ ids-back (s .ids) (k .ids) in
-    rw (level-here n s w (k .level), mep-here n s w (k .mep), period-here n s w (k .period), count-here n s w (k .count), own-here n s w, losspeer-here n s w, meg-here n s w, ids-here n s w, same)
+    made s
+    (level-here n s w (k .level))
+    (mep-here n s w (k .mep))
+    (period-here n s w (k .period))
+    (count-here n s w (k .count))
+    (own-here n s w)
+    (losspeer-here n s w)
+    (meg-here n s w)
+    (ap (idsIn n) (ids-here n s w) ∙ same)
 
 -- ── a body from its settings ──
+
+module _ (body : List ℕ) where
+  -- the fields side by side, and what stands behind them, are the body
+  parts-again : {level mep own period meg losspeer count rest : List ℕ}
+      → level ≡ part 0 1 body
+      → mep ≡ part 1 2 body
+      → own ≡ part 3 6 body
+      → period ≡ part 9 1 body
+      → meg ≡ part 10 48 body
+      → losspeer ≡ part 58 6 body
+      → count ≡ part 64 1 body
+      → rest ≡ drop 65 body
+      → (level ++ mep ++ own ++ period ++ meg ++ losspeer ++ count) ++ rest ≡ body
+  parts-again e1 e2 e3 e4 e5 e6 e7 e8 =
+      rw (
+        e1,
+        e2,
+        e3,
+        e4,
+        e5,
+        e6,
+        e7,
+        e8,
+        ← part-append 0 1 2 body,
+        ← part-append 0 3 6 body,
+        ← part-append 0 9 1 body,
+        ← part-append 0 10 48 body,
+        ← part-append 0 58 6 body,
+        ← part-append 0 64 1 body,
+      )
+      (sym (drop-part 0 65 body))
 
 pub again : (n : ℕ) (body : List ℕ) → length body ≡ bodyLength n → Octets body → settingsBody (settingsIn n body) ≡ body
 unfolding fieldsBefore settingsBody
@@ -102,20 +163,15 @@ again n body l h =
     ids-again n rest (omega arith) (λ k. rw (getD-drop 65 body k 0) (h (65 + k))) ∙ ap (λ (k : ℕ). part 0 k rest) (sym few) ∙ part-all rest in
     let field-again : (k at : ℕ) → at + k ≤ 65 → field k (fieldAt at k body) ≡ part at k body =
     λ k at fits. read-again littleEndian k at body (omega arith) h in
-    rw (
-      field-again 1 0 (omega arith),
-      field-again 2 1 (omega arith),
-      field-again 1 9 (omega arith),
-      field-again 1 64 (omega arith),
-      last,
-      ← part-append 0 1 2 body,
-      ← part-append 0 3 6 body,
-      ← part-append 0 9 1 body,
-      ← part-append 0 10 48 body,
-      ← part-append 0 58 6 body,
-      ← part-append 0 64 1 body,
-    )
-    (sym (drop-part 0 65 body))
+    parts-again body
+    (field-again 1 0 (omega arith))
+    (field-again 2 1 (omega arith))
+    refl
+    (field-again 1 9 (omega arith))
+    refl
+    refl
+    (field-again 1 64 (omega arith))
+    last
 
 pub shaped : (n : ℕ) (body : List ℕ) → bodyLength n ≤ length body → Shaped n (settingsIn n body)
 shaped n body h = record {

@@ -10,8 +10,8 @@ use Rattle.whole.proofs.Apart.{laid-whole}
 use Rattle.whole.proofs.Pieces.{first, more}
 use Rattle.octets.specs.Numbers.{littleEndian}
 use Rattle.octets.proofs.Laws.{length-octets}
-use Rattle.settings.specs.Settings.{Settings}
-use Rattle.settingsbody.specs.Body.{field, fieldsBefore, idsOctets, settingsBody, bodyLength, settingsIn, Shaped}
+use Rattle.settings.specs.Settings.{Settings, Shaped}
+use Rattle.settingsbody.specs.Body.{field, fieldsBefore, idsOctets, settingsBody, bodyLength, settingsIn}
 use Rattle.settingsbody.specs.Lying.{namesOf}
 use Rattle.settingsbody.proofs.Ids.{ids-long}
 

@@ -5,9 +5,9 @@ use mathlib.Core.List.{List, [], _∷_, _++_, append-assoc, append-nil}
 use native.Mathlib.Omega.{arith}
 use lib.ListN.{length, getD, length-append}
 use Rattle.whole.specs.Lists.{part}
-use Rattle.whole.proofs.Lists.{part-append, part-here, part-all, length-part}
-use Rattle.settings.specs.Settings.{Settings, settingsOf}
-use Rattle.settingsbody.specs.Body.{Shaped}
+use Rattle.whole.proofs.Lists.{part-append, part-here, part-all}
+use Rattle.settings.specs.Settings.{Settings, settingsOf, Shaped}
+use Rattle.settings.proofs.Shape.{lying-shaped}
 use Rattle.settingsbody.specs.Lying.{setOf, namesOf, Lying}
 
 pub lying-back : (n : ℕ) (s : Settings) → Shaped n s → settingsOf (setOf s) (namesOf s) (s .ids) ≡ s
@@ -32,14 +32,6 @@ lying-again set names ids hs hn = (
   four set hs,
   ap (λ (l : List ℕ). l ++ part 12 48 names) (sym (part-append 0 6 6 names)) ∙ sym (part-append 0 12 48 names) ∙ ap (λ (k : ℕ). part 0 k names) (sym hn) ∙ part-all names,
 )
-
-pub lying-shaped : (set names ids : List ℕ) → length names ≡ 60 → Shaped (length ids) (settingsOf set names ids)
-lying-shaped set names ids h = record {
-  own = length-part 0 6 names (omega arith);
-  losspeer = length-part 6 6 names (omega arith);
-  meg = length-part 12 48 names (omega arith);
-  ids = refl;
-}
 
 pub lying : Lying
 lying = record { back = lying-back; again = lying-again; shaped = lying-shaped }

@@ -6,7 +6,7 @@ use mathlib.Core.List.{List, [], _∷_, _++_}
 use lib.ListN.{length, getD, drop}
 use Rattle.whole.specs.Lists.{part}
 use Rattle.octets.specs.Numbers.{littleEndian, number, inOctets, Octets}
-use Rattle.settings.specs.Settings.{Settings}
+use Rattle.settings.specs.Settings.{Settings, Shaped}
 
 -- a field of n octets that holds a number, and the number of such a field
 abbrev pub field : ℕ → ℕ → List ℕ
@@ -61,13 +61,6 @@ settingsIn n body = record {
 }
 
 -- ── what is meant ──
-
--- addresses, MEG ID and slots have their lengths
-pub record Shaped (n : ℕ) (s : Settings) : Type 0 where
-  pub own : length (s .own) ≡ 6
-  pub losspeer : length (s .losspeer) ≡ 6
-  pub meg : length (s .meg) ≡ 48
-  pub ids : length (s .ids) ≡ n
 
 -- each number fits in the octets of its field
 pub record FieldsHold (s : Settings) : Type 0 where

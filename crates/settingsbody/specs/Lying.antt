@@ -3,9 +3,8 @@ use Prim.Native.Nat.{ℕ}
 use mathlib.Core.Path.{_≡_}
 use mathlib.Core.List.{List, [], _∷_, _++_}
 use lib.ListN.{length}
-use Rattle.settings.specs.Settings.{Settings, settingsOf}
+use Rattle.settings.specs.Settings.{Settings, settingsOf, Shaped}
 use Rattle.settingsbody.specs.declared.SettingsRead.{SettingsRead}
-use Rattle.settingsbody.specs.Body.{Shaped}
 
 -- level, MEP ID, period code, peer count
 abbrev pub setOf : Settings → List ℕ

@@ -10,4 +10,4 @@ pub read-settings-one : (κs : _) (a : _) (r r′ : _) (s s′ : _) → read-set
 read-settings-one κs a r r′ s s′ p q = p ∙ sym q
 
 pub write-settings-one : (κs : _) (a : _) (r r′ : _) (s s′ : _) → write-settings.Post κs a r s → write-settings.Post κs a r′ s′ → (r ≡ r′) × (now (s .0) ≡ now (s′ .0))
-write-settings-one κs a r r′ s s′ p q = (ap (λ (t : RecordEnd). t .answer) (p .0 ∙ sym (q .0)), ap (λ (t : RecordEnd). t .buffer) (p .0 ∙ sym (q .0)))
+write-settings-one κs a r r′ s s′ p q = (ap (λ (t : RecordEnd). t .answer) (p .0 .0 ∙ sym (q .0 .0)), ap (λ (t : RecordEnd). t .buffer) (p .0 .0 ∙ sym (q .0 .0)))

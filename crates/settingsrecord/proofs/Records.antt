@@ -15,7 +15,7 @@ use Rattle.whole.proofs.Lists.{length-part}
 use Rattle.whole.proofs.Apart.{part-front, laid-whole}
 use Rattle.octets.specs.Numbers.{Octets}
 use Rattle.octets.proofs.Laws.{part-octets}
-use Rattle.settings.specs.Settings.{Settings, slots}
+use Rattle.settings.specs.Settings.{Settings, slots, Shaped}
 use Rattle.settings.specs.Valid.{Valid, valid}
 use Rattle.settings.proofs.Rules.{valid-is}
 use Rattle.record.specs.declared.RecordAnswer.the-variants as stored
@@ -25,7 +25,7 @@ use Rattle.record.specs.Writing.{RecordEnd, ended, writeRecord, told, numbersOf
 use Rattle.record.proofs.Laws.{records}
 use Rattle.record.proofs.Writing.{writing}
 use Rattle.settingsbody.specs.declared.SettingsRead.{SettingsRead}
-use Rattle.settingsbody.specs.Body.{settingsBody, settingsIn, Shaped, FieldsHold}
+use Rattle.settingsbody.specs.Body.{settingsBody, settingsIn, FieldsHold}
 use Rattle.settingsrecord.specs.SettingsRecord.{bodySize, recordSize, settingsRecord, settingsAt, refusedRead, settingsRead, readSettings, writeSettings, SettingsRecords}
 use Rattle.settingsbody.proofs.Bodies.{bodies}
 use Rattle.settingsbody.specs.Lying.{given}

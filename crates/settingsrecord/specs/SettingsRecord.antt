@@ -10,14 +10,14 @@ use lib.ListN.{length, replicate}
 use Rattle.whole.specs.Tests.{choose}
 use Rattle.whole.specs.Lists.{part, laid}
 use Rattle.octets.specs.Numbers.{Octets}
-use Rattle.settings.specs.Settings.{Settings, slots, settingsOf}
+use Rattle.settings.specs.Settings.{Settings, slots, settingsOf, Shaped}
 use Rattle.settings.specs.Valid.{Valid, valid}
 use Rattle.record.specs.declared.RecordAnswer.the-variants as stored
 use Rattle.record.specs.declared.RecordTold.{RecordTold}
 use Rattle.record.specs.Record.{recordOf, isRecord, IsRecord, NoRecord}
 use Rattle.record.specs.Writing.{RecordEnd, ended, writeRecord, told, numbersOf}
 use Rattle.settingsbody.specs.declared.SettingsRead.{SettingsRead}
-use Rattle.settingsbody.specs.Body.{settingsBody, bodyLength, settingsIn, Shaped, FieldsHold}
+use Rattle.settingsbody.specs.Body.{settingsBody, bodyLength, settingsIn, FieldsHold}
 use Rattle.settingsbody.specs.Lying.{given}
 
 -- the octets of a body with as many slots as a box has, and of the whole record

@@ -1,7 +1,7 @@
 // The stored record of kind 1: settings. A read gives the three arrays in which settings lie, a write takes them. The answer of a read is a
 // struct with the refusal's number in it, and no enum: an enum that holds an array is not covered by the toolchain.
 ghost use mathlib.Core.Path.{_≡_};
-ghost use Rattle.settings.specs.Settings.{settingsOf};
+ghost use Rattle.settings.specs.Settings.{slots, settingsOf, Shaped};
 ghost use Rattle.record.specs.Writing.{ended, told};
 ghost use Rattle.settingsrecord.specs.SettingsRecord.{refusedRead, readSettings, writeSettings, writtenNumbers};
 use octets::parts::copy_octets;
@@ -59,7 +59,11 @@ pub fn write_settings(
     ids: &[u32; PEERS],
 ) -> RecordAnswer
     ensures { λ r. ⌜ (ended r (now (into .exit)) ≡ writeSettings (settingsOf (now (set .entry)) (now (names .entry)) (now (ids .entry))) (now (into .entry))) × (told r ≡ writtenNumbers (settingsOf (now (set .entry)) (now (names .entry)) (now (ids .entry))) (now (into .entry))) ⌝ }
+    ensures { λ _. ⌜ Shaped slots (settingsOf (now (set .entry)) (now (names .entry)) (now (ids .entry))) ⌝ }
 {
+    // a view of an array tells its length, and costs nothing
+    let _names: &[u8] = names;
+    let _ids: &[u32] = ids;
     let good = is_valid(set, names, ids);
     let body = body_of(set, names, ids);
     write_record(into, KIND, &body, good)

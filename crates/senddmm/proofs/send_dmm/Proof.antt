@@ -14,7 +14,8 @@ returns : tie.Need-returns
 returns c =
     let a = c .before .before .before .args in
     let s = lying (a .set) (a .names) (a .ids) (a .timers) (a .rdi) (a .run) (a .totals) in
-    ends-2 s (a .stamp) (now (a .out)) (c .before .is-well-formed .ensures) (c .if1 .taken)
+    let g = c .before .before .before .good .1 .1 .1 .1 .1 .1 .1 .0 .1 .1 in
+    (ends-2 s (a .stamp) (now (a .out)) (c .before .is-well-formed .ensures) (c .if1 .taken), record { seconds = g .0 .1; nanoseconds = g .1 .0 .1 })
 
 good-stamp-requires : tie.Need-good-stamp-requires
 good-stamp-requires c κs = search needs
@@ -23,7 +24,8 @@ returns-2 : tie.Need-returns-2
 returns-2 c =
     let a = c .before .before .before .before .before .args in
     let s = lying (a .set) (a .names) (a .ids) (a .timers) (a .rdi) (a .run) (a .totals) in
-    ends-6 s (a .stamp) (now (a .out)) (c .before .before .before .is-well-formed .ensures) (c .before .before .if1 .left) (c .before .good-stamp .ensures) (c .if2 .taken)
+    let g = c .before .before .before .before .before .good .1 .1 .1 .1 .1 .1 .1 .0 .1 .1 in
+    (ends-6 s (a .stamp) (now (a .out)) (c .before .before .before .is-well-formed .ensures) (c .before .before .if1 .left) (c .before .good-stamp .ensures) (c .if2 .taken), record { seconds = g .0 .1; nanoseconds = g .1 .0 .1 })
 
 element-copy-out-write-dmm : tie.Need-element-copy-out-write-dmm
 element-copy-out-write-dmm c = search needs
@@ -46,7 +48,8 @@ returns-3 c =
     let a = c .before .before .before .before .before .before .before .before .before .before .before .before .args in
     let s = lying (a .set) (a .names) (a .ids) (a .timers) (a .rdi) (a .run) (a .totals) in
     let w = c .before .before .before .before .write-dmm .ensures in
-    ends-3 s (a .stamp) (now (a .out)) (c .before .before .before .before .before .before .before .before .before .before .is-well-formed .ensures) (c .before .before .before .before .before .before .before .before .before .if1 .left) (c .before .before .before .before .before .before .before .before .good-stamp .ensures) (c .before .before .before .before .before .before .before .if2 .left) (w .1 .1) (w .0 .0) (w .1 .0) (c .enum-told .given .1)
+    let g = c .before .before .before .before .before .before .before .before .before .before .before .before .good .1 .1 .1 .1 .1 .1 .1 .0 .1 .1 in
+    (ends-3 s (a .stamp) (now (a .out)) (c .before .before .before .before .before .before .before .before .before .before .is-well-formed .ensures) (c .before .before .before .before .before .before .before .before .before .if1 .left) (c .before .before .before .before .before .before .before .before .good-stamp .ensures) (c .before .before .before .before .before .before .before .if2 .left) (w .1 .1) (w .0 .0) (w .1 .0) (c .enum-told .given .1), record { seconds = g .0 .1; nanoseconds = g .1 .0 .1 })
 
 same-length-2 : tie.Need-same-length-2
 same-length-2 c = search needs
@@ -57,7 +60,8 @@ returns-4 c =
     let a = c .before .before .before .before .before .before .before .before .before .before .before .before .before .args in
     let s = lying (a .set) (a .names) (a .ids) (a .timers) (a .rdi) (a .run) (a .totals) in
     let w = c .before .before .before .before .before .write-dmm .ensures in
-    ends-sent s (a .stamp) (now (a .out)) (c .before .before .before .before .before .before .before .before .before .before .before .is-well-formed .ensures) (c .before .before .before .before .before .before .before .before .before .before .if1 .left) (c .before .before .before .before .before .before .before .before .before .good-stamp .ensures) (c .before .before .before .before .before .before .before .before .if2 .left) (w .1 .1) (w .0 .0) (w .1 .0) (c .before .written .given .1)
+    let g = c .before .before .before .before .before .before .before .before .before .before .before .before .before .good .1 .1 .1 .1 .1 .1 .1 .0 .1 .1 in
+    (ends-sent s (a .stamp) (now (a .out)) (c .before .before .before .before .before .before .before .before .before .before .before .is-well-formed .ensures) (c .before .before .before .before .before .before .before .before .before .before .if1 .left) (c .before .before .before .before .before .before .before .before .before .good-stamp .ensures) (c .before .before .before .before .before .before .before .before .if2 .left) (w .1 .1) (w .0 .0) (w .1 .0) (c .before .written .given .1), record { seconds = g .0 .1; nanoseconds = g .1 .0 .1 })
 
 pub send-dmm-spec : {M : Type 1} → statement M
 send-dmm-spec =

@@ -2,9 +2,9 @@
 use mathlib.Core.Path.{_≡_, refl}
 use denote.Ref.{now}
 use lib.ListN.{length, replicate}
-use Rattle.settings.specs.Settings.{slots, settingsOf}
-use Rattle.settingsbody.specs.Body.{fieldsBefore, Shaped}
-use Rattle.settingsbody.proofs.Lying.{lying-shaped}
+use Rattle.settings.specs.Settings.{slots, settingsOf, Shaped}
+use Rattle.settingsbody.specs.Body.{fieldsBefore}
+use Rattle.settings.proofs.Shape.{lying-shaped}
 use Rattle.settingsbody.proofs.Laid.{body-laid}
 use borrow.Author.Needs.{needs}
 use Rattle.settingsoctets.proofs.body_of.Statement.{statement}

@@ -5,7 +5,7 @@ use denote.Ref.{now}
 use lib.ListN.{length}
 use Rattle.whole.specs.Lists.{part}
 use Rattle.settings.specs.Settings.{settingsOf}
-use Rattle.settingsbody.proofs.Lying.{lying-shaped}
+use Rattle.settings.proofs.Shape.{lying-shaped}
 use Rattle.settingsbody.proofs.Laid.{fields-laid}
 use borrow.Author.Needs.{needs}
 use Rattle.settingsoctets.proofs.put_fields.Statement.{statement}

@@ -1,6 +1,7 @@
 -- `settingsrecord::write_settings` meets its contract: the body, and whether the settings are valid, handed to the writer of records.
 use denote.Ref.{now}
 use Rattle.settings.specs.Settings.{settingsOf}
+use Rattle.settings.proofs.Shape.{handed-shaped}
 use Rattle.settingsrecord.proofs.Records.{ends-write}
 use borrow.Author.Needs.{needs}
 use Rattle.settingsrecord.proofs.write_settings.Statement.{statement}
@@ -23,11 +24,13 @@ same-length c = search needs
 
 returns : tie.Need-returns
 returns c = let w = c .before .before in
-    let a = w .before .before .before .before .before .before .args in
-    ends-write (settingsOf (now (a .set)) (now (a .names)) (now (a .ids))) (now (a .into))
-    (w .before .before .before .before .is-valid .ensures)
-    (w .before .before .before .body-of .ensures)
-    (w .write-record .ensures)
+    let a = w .before .before .before .before .before .before .before .before .args in (
+      ends-write (settingsOf (now (a .set)) (now (a .names)) (now (a .ids))) (now (a .into))
+          (w .before .before .before .before .is-valid .ensures)
+          (w .before .before .before .body-of .ensures)
+          (w .write-record .ensures),
+      handed-shaped (now (a .set)) (now (a .names)) (now (a .ids)) (search needs) (search needs),
+    )
 
 pub write-settings-spec : {M : Type 1} → statement M
 write-settings-spec =

@@ -1,3 +1,4 @@
+pub mod Other
 pub mod Messages
 pub mod Rows
 pub mod Sixth

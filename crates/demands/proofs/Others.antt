@@ -9,7 +9,6 @@ use lib.ListN.{length, getD}
 use borrow.Author.Tests.{le-ltb, lt-ltb, ltb-true, eq-eqb, eqb-true}
 use Rattle.whole.specs.Tests.{choose}
 use Rattle.whole.specs.Lists.{laid}
-use Rattle.whole.proofs.Lists.{same-is, pair-is}
 use Rattle.whole.proofs.Tests.{split, join}
 use Rattle.period.specs.Periods.{ticksOf}
 use Rattle.settings.specs.Settings.{Settings, slots}
@@ -33,7 +32,7 @@ use Rattle.clear.specs.Clear.{clearOf}
 use Rattle.sendlmm.specs.Lmm.{lmmOf, sendLmm}
 use Rattle.senddmm.specs.Dmm.{dmmOf, sendDmm}
 use Rattle.demands.specs.Calls as call
-use Rattle.demands.specs.Calls.{leaves, refused, done, written, Raised}
+use Rattle.demands.specs.Calls.{leaves, hands-out, refused, done, written, Raised}
 use Rattle.demands.specs.Cases.{StampGood}
 use Rattle.demands.specs.Started.{Fresh, AllZero}
 use Rattle.demands.specs.Standing.{Flag, on, off, Lost, Stands}
@@ -150,11 +149,11 @@ module _ (s : State) where
   unfolding clearOf
   clears w = rw (well s w)
 
-  pub setting-starts : (t : Settings) (fresh : State) → Valid t → Fresh t fresh → ours s (call.new-setting t) ≡ leaves done fresh []
-  setting-starts t fresh v f = rw (valid-is .valid-is t .1 v) (ap (λ (x : State). leaves done x []) (fresh-is t fresh f))
+  pub setting-starts : (t : Settings) (fresh : State) → Valid t → Fresh t fresh → ours s (call.new-setting t) ≡ hands-out done fresh fresh
+  setting-starts t fresh v f = rw (valid-is .valid-is t .1 v) (ap (λ (x : State). hands-out done x x) (fresh-is t fresh f))
 
-  pub setting-4 : (t : Settings) (empty : State) → (Valid t → ⊥) → AllZero empty → ours s (call.new-setting t) ≡ leaves (refused 4) empty []
-  setting-4 t empty n z = rw (untrue (valid t) (λ e. n (valid-is .valid-is t .0 e))) (ap (λ (x : State). leaves (refused 4) x []) (zero-is empty z))
+  pub setting-4 : (t : Settings) (empty : State) → (Valid t → ⊥) → AllZero empty → ours s (call.new-setting t) ≡ hands-out (refused 4) s empty
+  setting-4 t empty n z = rw (untrue (valid t) (λ e. n (valid-is .valid-is t .0 e))) (ap (λ (x : State). hands-out (refused 4) s x) (zero-is empty z))
 
 -- ── conditions ──
 

@@ -14,7 +14,7 @@ use Rattle.state.specs.Changed.{put, withSession, lowered}
 use Rattle.state.specs.State.{State}
 use Rattle.state.specs.WellFormed.{WellFormed}
 use Rattle.stamps.specs.declared.Stamp.{Stamp}
-use Rattle.demands.specs.Calls.{Call, new-setting, tick, clear, send-LMM, send-DMM, conditions, Raised, refused, written, done, standing, Outcome, leaves}
+use Rattle.demands.specs.Calls.{Call, new-setting, tick, clear, send-LMM, send-DMM, conditions, Raised, refused, written, done, standing, Outcome, leaves, hands-out}
 use Rattle.demands.specs.Cases.{StampGood}
 use Rattle.demands.specs.Started.{Fresh, AllZero}
 use Rattle.demands.specs.Standing.{Flag, Stands, Shows}
@@ -42,8 +42,9 @@ pub data Called (s : State) : Call → Outcome → Type 0 where
   dmm-3 : (t : Stamp) (b : List ℕ) → WellFormed s → StampGood t → length b < 51 → Called s (send-DMM t b) (leaves (refused 3) s b)
   dmm-sends : (t : Stamp) (b : List ℕ) → WellFormed s → StampGood t → 51 ≤ length b → Called s (send-DMM t b) (leaves (written 51) s (laid 0 (dmmFrom s t) b))
   -- ── a new setting, whatever state there was before ──
-  setting-4 : (t : Settings) (zero : State) → (Valid t → ⊥) → AllZero zero → Called s (new-setting t) (leaves (refused 4) zero [])
-  setting-starts : (t : Settings) (fresh : State) → Valid t → Fresh t fresh → Called s (new-setting t) (leaves done fresh [])
+  -- 4: an all-zero state is handed out, and what lies with the caller stays
+  setting-4 : (t : Settings) (zero : State) → (Valid t → ⊥) → AllZero zero → Called s (new-setting t) (hands-out (refused 4) s zero)
+  setting-starts : (t : Settings) (fresh : State) → Valid t → Fresh t fresh → Called s (new-setting t) (hands-out done fresh fresh)
   -- ── conditions: what stands, and no change ──
   conditions-2 : (WellFormed s → ⊥) → Called s conditions (leaves (refused 2) s [])
   conditions-show : (r : Raised) → WellFormed s → Shows s r → Called s conditions (leaves (standing r) s [])

@@ -1,9 +1,10 @@
 -- The calls of a box and what each is answered, in the paper's words: nothing here belongs to one box or another. Definitions only.
 use Prim.Native.Nat.{ℕ}
-use mathlib.Core.List.{List}
+use mathlib.Core.Path.{_≡_}
+use mathlib.Core.List.{List, []}
 use lib.IntN.{ℤ}
 use Rattle.octets.specs.Numbers.{Octets}
-use Rattle.settings.specs.Settings.{Settings}
+use Rattle.settings.specs.Settings.{slots, Settings, Shaped}
 use Rattle.state.specs.State.{State}
 use Rattle.stamps.specs.Stamps.{Wire}
 use Rattle.stamps.specs.declared.Stamp.{Stamp}
@@ -59,29 +60,53 @@ pub data Answer : Type 0 where
   done : Answer
   standing : Raised → Answer
 
--- all that a call leaves: the answer, the state, the buffer that was handed over (none for a call without one)
+-- what a call hands out by value: of a new setting a state, of every other call nothing
+pub data HandedOut : Type 0 where
+  nothing : HandedOut
+  a-state : State → HandedOut
+
+-- all that a call leaves: the answer; the state that lies with the caller afterwards; the buffer that was handed over (none for a call
+-- without one); what it hands out
 pub record Outcome : Type 0 where
   pub answer : Answer
   pub state : State
   pub buffer : List ℕ
+  pub out : HandedOut
 
 abbrev pub leaves : Answer → State → List ℕ → Outcome
-leaves answer state buffer = record { answer = answer; state = state; buffer = buffer }
+leaves answer state buffer = record { answer = answer; state = state; buffer = buffer; out = nothing }
 
--- what a call brings has the width that it is handed over in: octets are below 256, both parts of a stamp have 32 bits
+-- a new setting, which has no buffer
+abbrev pub hands-out : Answer → State → State → Outcome
+hands-out answer state out = record { answer = answer; state = state; buffer = []; out = a-state out }
+
+-- ── what a call brings has the width that it is handed over in ──
+
+-- settings have the lengths of their arrays, and octets are below 256
+pub record FromArrays (t : Settings) : Type 0 where
+  pub shape : Shaped slots t
+  pub own : Octets (t .own)
+  pub losspeer : Octets (t .losspeer)
+  pub meg : Octets (t .meg)
+
+-- a frame has octets, and both parts of a stamp have 32 bits
 pub record FromWire (a : Arrival) : Type 0 where
   pub octets : Octets (a .octets)
   pub receive : Wire (a .receive)
   pub transmit : Wire (a .transmit)
 
 abbrev pub OnWire : Call → Type 0
-OnWire (new-setting t) = Unit
+OnWire (new-setting t) = FromArrays t
 OnWire (frame a) = FromWire a
 OnWire (tick b) = Unit
 OnWire clear = Unit
 OnWire (send-LMM b) = Unit
 OnWire (send-DMM t b) = Wire t
 OnWire conditions = Unit
+
+-- any call but a new setting, which is given no state
+abbrev pub NoSetting : Call → Type 0
+NoSetting c = (t : Settings) → c ≡ new-setting t → ⊥
 
 -- a box is what it leaves of any state at any call
 abbrev pub Box : Type 0

@@ -1,9 +1,11 @@
 -- Our box, made of the very definitions that the contracts of its functions name; and that it follows the paper. Definitions and the statement
 -- only.
 use mathlib.Core.Path.{_≡_}
+use mathlib.Core.Bool.{cond}
 use mathlib.Core.List.{[]}
+use Rattle.settings.specs.Valid.{valid}
 use Rattle.state.specs.State.{State}
-use Rattle.start.specs.Start.{answerOf, afterSetting}
+use Rattle.start.specs.Start.{startOf, answerOf, afterSetting}
 use Rattle.clear.specs.Clear.{ClearEnd, clearOf}
 use Rattle.conditions.specs.Conditions.{conditionsOf}
 use Rattle.tick.specs.Tick.{Ticked, tickOf}
@@ -12,7 +14,7 @@ use Rattle.senddmm.specs.Dmm.{DmmEnd, sendDmm}
 use Rattle.carryout.specs.CarryOut.{Framed}
 use Rattle.receive.specs.Frame.{frameOf}
 use Rattle.demands.specs.Calls as call
-use Rattle.demands.specs.Calls.{Call, Outcome, leaves, OnWire, Box}
+use Rattle.demands.specs.Calls.{Call, Outcome, leaves, hands-out, OnWire, Box}
 use Rattle.demands.specs.Said.{Said}
 use Rattle.demands.specs.Words.{sideOf, settingAnswer, frameAnswer, clearAnswer, tickAnswer, lmmAnswer, dmmAnswer, conditionsAnswer}
 
@@ -34,7 +36,7 @@ abbrev pub afterDmm : State → DmmEnd → Outcome
 afterDmm s r = leaves (dmmAnswer (r .answer)) s (r .buffer)
 
 abbrev pub ours : Box
-ours s (call.new-setting t) = leaves (settingAnswer (answerOf t)) (afterSetting t) []
+ours s (call.new-setting t) = hands-out (settingAnswer (answerOf t)) (cond (valid t) (startOf t) s) (afterSetting t)
 ours s (call.frame a) = afterFrame (frameOf s (sideOf (a .side)) (a .octets) (a .receive) (a .transmit) (a .buffer))
 ours s (call.tick b) = afterTick (tickOf s b)
 ours s call.clear = afterClear (clearOf s)

@@ -1,12 +1,19 @@
--- What a new setting starts with, and what a refused one hands out. The paper, "A new setting takes no old
+-- Which settings are taken, what a new setting starts with, and what a refused one hands out. The paper, "A new setting takes no old
 -- state", and refusal 4. Conditions only.
 use Prim.Native.Nat.{ℕ, _≤_, _<_}
 use mathlib.Core.Path.{_≡_}
 use lib.ListN.{length, getD, replicate}
 use Rattle.period.specs.Periods.{ticksOf, holdOf}
 use Rattle.settings.specs.Settings.{Settings, slots}
+use Rattle.settings.specs.Valid.{Valid}
 use Rattle.session.specs.Session.{clearedSession}
 use Rattle.state.specs.State.{State}
+use Rattle.demands.specs.Calls.{new-setting, OnWire}
+
+-- settings that are taken: of the lengths in which they are handed over, and valid
+pub record Settable (t : Settings) : Type 0 where
+  pub handed : OnWire (new-setting t)
+  pub valid : Valid t
 
 -- what a setting starts with: peers held as if just heard, nothing else running, nothing counted or measured, the first CCM a period away
 pub record Fresh (t : Settings) (s : State) : Type 0 where

@@ -1,4 +1,5 @@
 -- Each function's answer in the paper's words. Definitions only.
+use Prim.Native.Nat.{ℕ}
 use mathlib.Core.Bool.{cond}
 use lib.Dec.{eqb}
 use lib.IntN.{pos}
@@ -19,6 +20,7 @@ use Rattle.answers.specs.declared.FrameAnswer.the-variants as answer
 use Rattle.answers.specs.declared.FrameAnswer.{FrameAnswer}
 use Rattle.class.specs.declared.Side.the-variants as side
 use Rattle.class.specs.declared.Side.{Side}
+use Rattle.state.specs.State.{State}
 use Rattle.demands.specs.Calls as call
 use Rattle.demands.specs.Calls.{Answer, refused, dropped, passed, taken, written, loss, delay, delays, done, standing, Raised}
 
@@ -29,6 +31,10 @@ sideOf call.passive = side.Passive
 abbrev pub settingAnswer : SettingAnswer → Answer
 settingAnswer setting.Invalid = refused 4
 settingAnswer setting.Set = done
+
+-- the state that a caller holds after a new setting: what is handed out, or, refused, what there was before
+abbrev pub takenOver : State → ℕ → State → State
+takenOver before refusal out = cond (eqb refusal 0) out before
 
 abbrev pub frameAnswer : FrameAnswer → Answer
 frameAnswer answer.NotWellFormed = refused 2

@@ -12,12 +12,12 @@ use Rattle.state.specs.State.{State}
 use Rattle.state.specs.WellFormed.{WellFormed, wellFormed}
 use Rattle.state.proofs.Rules.{well-formed-is}
 use Rattle.demands.specs.Calls as call
-use Rattle.demands.specs.Calls.{Call, OnWire, Box}
+use Rattle.demands.specs.Calls.{Call, OnWire, NoSetting, Box}
 use Rattle.demands.specs.Ours.{Follows}
 use Rattle.promised.specs.Refusals as table
 use Rattle.promised.specs.Refusals.{Refusal}
 use Rattle.promised.proofs.Promised.{promises}
-use Rattle.lossruns.specs.Runs.{run, Each, NoSetting, Event, reply, received, sent, other, Is, Events, none, next, receivedIn, sentIn}
+use Rattle.lossruns.specs.Runs.{run, Each, Event, reply, received, sent, other, Is, Events, none, next, receivedIn, sentIn}
 use Rattle.lossruns.specs.Runs as event
 use Rattle.lossruns.proofs.Lift.{Within, here, onward}
 
@@ -65,7 +65,7 @@ module _ (B : Box) (F : Follows B) (s : State) (bad : WellFormed s → ⊥) wher
   second call.conditions k = table.conditions-2 bad
 
   left : (c : Call) → OnWire c → NoSetting c → B s c .state ≡ s
-  left c u k = let p = promises .kept B F in p .left s c 2 u (p .refuses s c 2 u .1 (second c k)) (λ e. omega (arith, e)) .0
+  left c u k = let p = promises .kept B F in p .left s c 2 u (p .refuses s c 2 u .1 (second c k)) .0
 
   run-left : (cs : List Call) → Each OnWire cs → Each NoSetting cs → run B s cs ≡ s
   unfolding after Each

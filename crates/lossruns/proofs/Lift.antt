@@ -12,9 +12,9 @@ use Rattle.loss.specs.Reading.{afterReading}
 use Rattle.account.specs.Demand3 as account
 use Rattle.state.specs.State.{State}
 use Rattle.state.specs.WellFormed.{WellFormed}
-use Rattle.demands.specs.Calls.{Call, Answer, OnWire, Box}
+use Rattle.demands.specs.Calls.{Call, Answer, OnWire, NoSetting, Box}
 use Rattle.demands.specs.Ours.{Follows}
-use Rattle.lossruns.specs.Runs.{run, answers, Each, NoSetting, NoClear, Event, reply, received, sent, other, Is, Events, none, next}
+use Rattle.lossruns.specs.Runs.{run, answers, Each, NoClear, Event, reply, received, sent, other, Is, Events, none, next}
 use Rattle.lossruns.specs.Replies.{repliesIn, toReplies}
 use Rattle.lossruns.proofs.Same.{is-to}
 use Rattle.lossruns.proofs.Step.{toldOf, Step, step, stays}
@@ -32,7 +32,7 @@ module _ (B : Box) (F : Follows B) (s : State) where
     here = step B F y c e u k (is-to s y c e (w .start) (w .well) (sym (w .settings)) i)
 
     pub onward : Within s (B y c .state)
-    onward = record { start = w .start; well = stays B F y c u k (w .well); settings = here .settings ∙ w .settings }
+    onward = record { start = w .start; well = stays B F y c u (w .well); settings = here .settings ∙ w .settings }
 
   -- the whole run keeps to it
   pub keeps-to : (cs : List Call) (es : List Event) → Events s cs es → Each OnWire cs → Each NoSetting cs → (y : State) → Within s y → Within s (run B y cs)

@@ -20,20 +20,20 @@ use Rattle.state.specs.State.{State}
 use Rattle.state.specs.Changed.{withSession}
 use Rattle.state.specs.WellFormed.{WellFormed}
 use Rattle.settings.specs.Settings.{Settings}
-use Rattle.settings.specs.Valid.{Valid}
 use Rattle.start.specs.Start.{startOf}
 use Rattle.start.proofs.Starts.{starts}
 use Rattle.demands.proofs.Started.{fresh-own}
 use Rattle.promised.proofs.Kept.{session-put}
-use Rattle.demands.specs.Calls.{Arrival, Call, new-setting, frame, clear, Answer, leaves, OnWire, Box}
+use Rattle.demands.specs.Calls.{Arrival, Call, new-setting, frame, clear, Answer, leaves, OnWire, NoSetting, Box}
 use Rattle.demands.specs.Calls as told
 use Rattle.demands.specs.Said as paper
 use Rattle.demands.specs.Called as calling
 use Rattle.demands.specs.Made as made
+use Rattle.demands.specs.Started.{Settable}
 use Rattle.demands.specs.Taken.{LossReply}
 use Rattle.demands.specs.Ours.{ours, Follows}
 use Rattle.demands.proofs.Follows.{ours-follows}
-use Rattle.lossruns.specs.Runs.{run, answers, Each, NoSetting, Event}
+use Rattle.lossruns.specs.Runs.{run, answers, Each, Event}
 use Rattle.lossruns.specs.Replies.{most, oursAt, repliesIn, accepted, Seen, refused, loss, seen, accounted, SinceClear}
 use Rattle.lossruns.specs.Own.{beside}
 use Rattle.lossruns.specs.Demand3.{said, Measured, Agrees, Begins, Demand3}
@@ -148,10 +148,10 @@ module _ (B : Box) (F : Follows B) where
       let e = F .follows s clear _ tt (paper.by-call (calling.clears w)) in
       record { settings = rw e refl; well = rw e (session-put s clearedSession cleared-well w); cleared = rw e refl }
 
-  set : (s : State) (t : Settings) → Valid t → Begins t (B s (new-setting t) .state) × (B s (new-setting t) .state .received ≡ 0) × (B s (new-setting t) .state .sent ≡ 0)
-  set s t v =
-      let e = F .follows s (new-setting t) _ tt (paper.by-call (calling.setting-starts t (startOf t) v (fresh-own t))) in
-      (record { settings = rw e refl; well = rw e (starts .well t v); cleared = rw e refl }, rw e refl, rw e refl)
+  set : (s : State) (t : Settings) → Settable t → Begins t (B s (new-setting t) .state) × (B s (new-setting t) .state .received ≡ 0) × (B s (new-setting t) .state .sent ≡ 0)
+  set s t g =
+      let e = F .follows s (new-setting t) _ (g .handed) (paper.by-call (calling.setting-starts t (startOf t) (g .valid) (fresh-own t))) in
+      (record { settings = rw e refl; well = rw e (starts .well t (g .valid)); cleared = rw e refl }, rw e refl, rw e refl)
 
   kept : (s : State) (cs : List Call) → WellFormed s → Each OnWire cs → Each NoSetting cs → WellFormed (run B s cs) × (run B s cs .settings ≡ s .settings)
   kept s cs w u k =

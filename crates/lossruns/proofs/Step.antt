@@ -22,7 +22,7 @@ use Rattle.state.specs.State.{State}
 use Rattle.state.specs.Changed.{withSession}
 use Rattle.state.specs.WellFormed.{WellFormed}
 use Rattle.demands.specs.Calls as call
-use Rattle.demands.specs.Calls.{Arrival, Call, Answer, refused, loss, Outcome, leaves, OnWire, Box}
+use Rattle.demands.specs.Calls.{Arrival, Call, Answer, refused, loss, Outcome, leaves, OnWire, NoSetting, Box}
 use Rattle.demands.specs.Said as said
 use Rattle.demands.specs.Judged as judging
 use Rattle.demands.specs.Handling as handling
@@ -31,10 +31,8 @@ use Rattle.demands.specs.Made as made
 use Rattle.demands.specs.Taken.{LossReply}
 use Rattle.demands.specs.Said.{Said}
 use Rattle.demands.specs.Ours.{Follows}
-use Rattle.promised.specs.Refusals as table
-use Rattle.promised.specs.Refusals.{Refusal}
 use Rattle.promised.proofs.Promised.{promises}
-use Rattle.lossruns.specs.Runs.{NoSetting, NoClear, Event, Neither, Is}
+use Rattle.lossruns.specs.Runs.{NoClear, Event, Neither, Is}
 use Rattle.lossruns.specs.Runs as event
 
 -- a loss session's answer in the paper's words
@@ -148,24 +146,6 @@ pub record Step (y : State) (c : Call) (e : Event) (o : Outcome) : Type 0 where
   pub session : NoClear c → o .state .session ≡ sessionBy e (y .received) (y .session)
   pub answer : AnswerBy e (y .received) (y .session) (o .answer)
 
--- 4 is given to a setting alone
-four : {y : State} {c : Call} {n : ℕ} → Refusal y c n → n ≡ 4 → NoSetting c → ⊥
-four (table.frame-2 a v) e k = omega (arith, e)
-four (table.frame-1 a v h) e k = omega (arith, e)
-four (table.frame-6 a v h g) e k = omega (arith, e)
-four (table.frame-3 a reply l q r h) e k = omega (arith, e)
-four (table.frame-5 a l p q) e k = omega (arith, e)
-four (table.tick-2 b v) e k = omega (arith, e)
-four (table.tick-3 b v p h) e k = omega (arith, e)
-four (table.clear-2 v) e k = omega (arith, e)
-four (table.lmm-2 b v) e k = omega (arith, e)
-four (table.lmm-3 b v h) e k = omega (arith, e)
-four (table.dmm-2 t b v) e k = omega (arith, e)
-four (table.dmm-6 t b v g) e k = omega (arith, e)
-four (table.dmm-3 t b v g h) e k = omega (arith, e)
-four (table.setting-4 t v) e k = k t refl
-four (table.conditions-2 v) e k = omega (arith, e)
-
 module _ (y : State) (a : Arrival) (l : LossReply y a) where
   abbrev read : Readings
   read = made.reading y a
@@ -214,5 +194,5 @@ module _ (B : Box) (F : Follows B) where
   step y c e u k (event.is-other x n) = let p = promises .says y x u in rw (F .follows y x (p .0) u (p .1)) (step-other y x (p .0) k n (p .1))
 
   -- a well-formed state stays so
-  pub stays : (y : State) (c : Call) → OnWire c → NoSetting c → WellFormed y → WellFormed (B y c .state)
-  stays y c u k w = promises .kept B F .stays y c u w (λ e. four (promises .kept B F .refuses y c 4 u .0 e) refl k)
+  pub stays : (y : State) (c : Call) → OnWire c → WellFormed y → WellFormed (B y c .state)
+  stays y c u w = promises .kept B F .stays y c u w

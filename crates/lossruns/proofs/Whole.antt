@@ -18,7 +18,7 @@ use Rattle.state.specs.WellFormed.{wellFormed}
 use Rattle.state.proofs.Rules.{well-formed-is}
 use Rattle.frame.specs.Head.{etherTypeOf}
 use Rattle.demands.specs.Calls as call
-use Rattle.demands.specs.Calls.{Side, active, passive, Arrival, Call, Answer, Outcome, FromWire, OnWire}
+use Rattle.demands.specs.Calls.{Side, active, passive, Arrival, Call, Answer, Outcome, FromWire, OnWire, NoSetting}
 use Rattle.demands.specs.Cases.{Heeded, Counted}
 use Rattle.demands.specs.Said as said
 use Rattle.demands.specs.Judged as judging
@@ -27,7 +27,7 @@ use Rattle.demands.specs.Made as made
 use Rattle.demands.specs.Taken.{LossReply}
 use Rattle.demands.specs.Said.{Said}
 use Rattle.promised.proofs.Promised.{promises}
-use Rattle.lossruns.specs.Runs.{Each, NoSetting, CountedFrom, Event, reply, received, sent, other, Neither, Is, is-reply, is-received, is-sent, is-other, Events, none, next}
+use Rattle.lossruns.specs.Runs.{Each, CountedFrom, Event, reply, received, sent, other, Neither, Is, is-reply, is-received, is-sent, is-other, Events, none, next}
 use Rattle.lossruns.specs.Meets.{Whole}
 use Rattle.lossruns.proofs.Same.{is-to}
 use Rattle.lossruns.proofs.Step.{toldOf, reply-said}

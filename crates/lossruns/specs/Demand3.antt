@@ -5,16 +5,16 @@ use mathlib.Core.List.{List, _++_, map}
 use lib.IntN.{ℤ}
 use lib.ListN.{length, take, replicate}
 use Rattle.settings.specs.Settings.{Settings}
-use Rattle.settings.specs.Valid.{Valid}
 use Rattle.session.specs.Session.{Side, near, totalOf, clearedSession}
 use Rattle.account.specs.Account.{Truth, Grows, Sound, total}
 use Rattle.account.specs.Demand3.{Shows}
 use Rattle.state.specs.State.{State}
 use Rattle.state.specs.WellFormed.{WellFormed}
-use Rattle.demands.specs.Calls.{Arrival, Call, new-setting, frame, clear, Answer, leaves, OnWire, Box}
+use Rattle.demands.specs.Calls.{Arrival, Call, new-setting, frame, clear, Answer, leaves, OnWire, NoSetting, Box}
 use Rattle.demands.specs.Calls as told
 use Rattle.demands.specs.Taken.{LossReply}
-use Rattle.lossruns.specs.Runs.{run, answers, Each, NoSetting, Event, Events, receivedIn, sentIn}
+use Rattle.demands.specs.Started.{Settable}
+use Rattle.lossruns.specs.Runs.{run, answers, Each, Event, Events, receivedIn, sentIn}
 use Rattle.lossruns.specs.Own.{Neighbours, PeerSent, beside, FewCounted}
 use Rattle.lossruns.specs.Replies.{most, oursAt, repliesIn, accepted, toReplies, refused, loss, seen, accounted, SinceClear}
 
@@ -40,11 +40,12 @@ pub record Begins (t : Settings) (s : State) : Type 0 where
 -- ── the demand ──
 
 pub record Demand3 (B : Box) : Type 0 where
-  -- a clear of any well-formed state begins such a run, with the settings that there were; so does a valid setting, with both counts 0
+  -- a clear of any well-formed state begins such a run, with the settings that there were; so does a setting that is taken, with both
+  -- counts 0
   pub after-clear : (s : State) → WellFormed s → Begins (s .settings) (B s clear .state)
-  pub after-setting : (s : State) (t : Settings) → Valid t
+  pub after-setting : (s : State) (t : Settings) → Settable t
       → Begins t (B s (new-setting t) .state) × (B s (new-setting t) .state .received ≡ 0) × (B s (new-setting t) .state .sent ≡ 0)
-  -- and no call but a new setting takes a state out of it: well formed it stays, and its settings
+  -- and no call but a setting that is taken takes a state out of it: well formed it stays, and its settings
   pub keeps : (s : State) (cs : List Call) → WellFormed s → Each OnWire cs → Each NoSetting cs
       → WellFormed (run B s cs) × (run B s cs .settings ≡ s .settings)
   -- each side's results and total agree with the account, by the premise on its own two counts: true counts, that the readings show modulo

@@ -6,26 +6,22 @@ use native.Mathlib.Omega.{arith}
 use lib.ListN.{length}
 use Rattle.whole.specs.Lists.{part, laid}
 use Rattle.whole.proofs.Lists.{laid-back}
-use Rattle.settings.specs.Settings.{Settings, slots}
 use Rattle.settings.specs.Valid.{Valid}
-use Rattle.settingsbody.specs.Body.{Shaped}
 use Rattle.stamps.specs.declared.Stamp.{Stamp}
 use Rattle.stamps.specs.Stamps.{Wire}
 use Rattle.state.specs.State.{State}
-use Rattle.state.specs.Changed.{lowered}
 use Rattle.state.specs.WellFormed.{WellFormed}
-use Rattle.continuity.specs.Continuity.{ccmOctets}
 use Rattle.continuity.proofs.Laid.{ccm-long}
 use Rattle.requests.proofs.Laid.{lmm-long, dmm-long}
-use Rattle.readback.specs.Sent.{CcmGiven, CcmBack, LmmBack, DmmBack}
+use Rattle.readback.specs.Sent.{CcmGiven, LmmBack, DmmBack}
 use Rattle.readback.proofs.Sent.{sent-back}
 use Rattle.readback.proofs.Replies.{replies-back}
 use Rattle.frame.specs.Head.{flagsOf, startOf}
 use Rattle.incoming.specs.Message.{messageOf, judgedOf}
-use Rattle.demands.specs.Calls.{Arrival, Call, new-setting, frame, tick, send-LMM, send-DMM, Answer, refused, dropped, passed, taken, written, loss, delay, delays, done, standing, Outcome, OnWire, Box}
+use Rattle.demands.specs.Calls.{Arrival, Call, frame, tick, send-LMM, send-DMM, Answer, refused, dropped, passed, taken, written, loss, delay, delays, done, standing, Outcome, OnWire, Box}
 use Rattle.demands.specs.Cases.{pdu, opcode, OwnLevel}
 use Rattle.demands.specs.Drops.{Sound}
-use Rattle.demands.specs.Standing.{Flag, on, off, Stands}
+use Rattle.demands.specs.Standing.{Flag, on, off}
 use Rattle.demands.specs.Made.{ccmValues, ccmFrom, lmmFrom, dmmFrom, Reply, lbr, lmr, dmr}
 use Rattle.demands.specs.Handling.{rule-6}
 use Rattle.demands.specs.Called.{tick-2, tick-3, tick-lowers, tick-sends, lmm-2, lmm-3, lmm-sends, dmm-2, dmm-6, dmm-3, dmm-sends}
@@ -35,12 +31,9 @@ use Rattle.demands.proofs.Rows.{row-known, row-least}
 use Rattle.demands.proofs.Messages.{judged, uncut}
 use Rattle.demands.proofs.Codes as code
 use Rattle.promised.proofs.Promised.{promises}
-use Rattle.lossruns.specs.Runs.{Each, NoSetting}
-use Rattle.lossruns.proofs.Meets.{meets}
-use Rattle.lossruns.proofs.Whole.{whole}
-use Rattle.timing.specs.Runs.{since}
 use Rattle.order.specs.Demand2.{InMemory, CcmSent, ReplyBack, Demand2}
 use Rattle.order.specs.Demand2 as back
+use Rattle.order.proofs.Memory.{in-memory}
 
 -- the length of what was written, one more, to tell that answer from all others
 length-of : Answer → ℕ
@@ -139,16 +132,6 @@ module _ (B : Box) (f : Follows B) where
   left : (s : State) (c : Call) (wire : OnWire c) → B s c ≡ promises .says s c wire .0
   left s c wire = f .follows s c (promises .says s c wire .0) wire (promises .says s c wire .1)
 
-  in-memory : (s : State) (t : Settings) (cs : List Call) → Valid t → Shaped slots t → Each OnWire cs → Each NoSetting cs → InMemory (since B s t cs)
-  in-memory s t cs v shape wire none =
-      let d = meets .meets B f in
-      let b = d .after-setting s t v in
-      let start = B s (new-setting t) .state in
-      let same = d .keeps start cs (b .0 .well) wire none .1 ∙ b .0 .settings in
-      let es = whole .all start cs wire none in
-      let n = d .counts 0 0 start cs (es .0) (b .1) (b .2) wire none (es .1) in
-      record { settings = rw same shape; sent = rw (n .1) (omega arith); received = rw (n .0) (omega arith) }
-
   reply : (s : State) (a : Arrival) (octets : List ℕ) → InMemory s → OnWire (frame a) → OwnLevel s a → Sound s a → Reply s a octets → length octets ≤ length (a .buffer)
       → (B s (frame a) .answer ≡ written (length octets)) × ReplyBack s a (part 0 (length octets) (B s (frame a) .buffer))
   reply s a octets m wire w q r h =
@@ -159,7 +142,7 @@ module _ (B : Box) (f : Follows B) where
   pub demand-2 : Demand2 B
   demand-2 = record {
     follows = f;
-    in-memory = in-memory;
+    in-memory = in-memory B f;
     ccm = λ s b n m e.
         let w = promises .says s (tick b) tt in
         let l = left s (tick b) tt in

@@ -5,9 +5,7 @@ use mathlib.Core.Path.{_≡_}
 use mathlib.Core.List.{List}
 use lib.ListN.{length}
 use Rattle.whole.specs.Lists.{part}
-use Rattle.settings.specs.Settings.{Settings, slots}
-use Rattle.settings.specs.Valid.{Valid}
-use Rattle.settingsbody.specs.Body.{Shaped}
+use Rattle.settings.specs.Settings.{Settings, slots, Shaped}
 use Rattle.stamps.specs.declared.Stamp.{Stamp}
 use Rattle.stamps.specs.Stamps.{Wire}
 use Rattle.state.specs.State.{State}
@@ -19,11 +17,12 @@ use Rattle.demands.specs.Calls.{Arrival, Call, frame, tick, send-LMM, send-DMM,
 use Rattle.demands.specs.Cases.{opcode, OwnLevel}
 use Rattle.demands.specs.Drops.{Sound}
 use Rattle.demands.specs.Standing.{Flag, Stands}
+use Rattle.demands.specs.Started.{Settable}
 use Rattle.demands.specs.Made.{ccmValues, Reply}
 use Rattle.demands.specs.Ours.{Follows}
 use Rattle.readback.specs.Sent.{CcmBack, LmmBack, DmmBack}
 use Rattle.readback.specs.Replies.{Answers}
-use Rattle.lossruns.specs.Runs.{Each, NoSetting}
+use Rattle.lossruns.specs.Runs.{Each}
 use Rattle.timing.specs.Runs.{since}
 
 -- a state as it lies in memory: addresses, MEG ID and slots have their lengths, counts have 32 bits
@@ -48,8 +47,8 @@ pub data ReplyBack (s : State) (a : Arrival) (f : List ℕ) : Type 0 where
 
 pub record Demand2 (B : Box) : Type 0 where
   pub follows : Follows B
-  -- what is written reads back as the fields of the state it was sent from; along a run since a setting that lies in memory every state does
-  pub in-memory : (s : State) (t : Settings) (cs : List Call) → Valid t → Shaped slots t → Each OnWire cs → Each NoSetting cs → InMemory (since B s t cs)
+  -- what is written reads back as the fields of the state it was sent from; along a run since a setting every state lies in memory
+  pub in-memory : (s : State) (t : Settings) (cs : List Call) → Settable t → Each OnWire cs → InMemory (since B s t cs)
   pub ccm : (s : State) (b : List ℕ) (n : ℕ) → InMemory s → B s (tick b) .answer ≡ written n → (n ≡ 89) × CcmSent s (B s (tick b) .buffer)
   pub lmm : (s : State) (b : List ℕ) (n : ℕ) → InMemory s → B s (send-LMM b) .answer ≡ written n
       → (n ≡ 31) × LmmBack (s .settings .losspeer) (s .settings .own) (s .settings .level) (s .sent) (part 0 31 (B s (send-LMM b) .buffer))

@@ -1,6 +1,10 @@
 -- The order, whole: what a box must keep before the plan, and what is said of the calls beside it. Definitions and the statement only.
 use Rattle.demands.specs.Calls.{Box}
 use Rattle.demands.specs.Ours.{ours, Follows}
+use Rattle.demands.specs.Told.{ToldAlike}
+use Rattle.promised.specs.Promised.{Promises}
+use Rattle.card.specs.Said.{LentFollows}
+use Rattle.card.specs.Demand3.{LentMeets}
 use Rattle.lossruns.specs.Demand3.{Demand3}
 use Rattle.timing.specs.Time.{Time}
 use Rattle.readersaid.specs.Reader.{ReaderFollows}
@@ -14,11 +18,17 @@ pub record Order (B : Box) : Type 0 where
   pub demand-3 : Demand3 B
   pub in-time : Time B
 
--- every box that follows the paper keeps it, and so does ours; and the calls that are given no state of a box, those on stored records, the
--- reader and the lent session, keep demands 1 and 2 beside it
-pub record Met : Type 0 where
+-- every box that follows the paper keeps it, and so does ours
+pub record Met : Type 1 where
   pub every : (B : Box) → Follows B → Order B
   pub our-box : Order ours
+  -- the paper leaves no call without a word and no choice; the numbers that a caller is told are those of the paper's answers
+  pub paper : Promises
+  pub told : ToldAlike
+  -- the calls that are given no state of a box, those on stored records, the reader and the lent session, keep demands 1 and 2 beside it
   pub beside : Beside
   pub records : RecordsFollow
   pub reader : ReaderFollows
+  -- the lent session by the paper's lines on it, and it keeps demand 3
+  pub lent-lines : LentFollows
+  pub lent : LentMeets

@@ -3,13 +3,12 @@ use Prim.Native.Nat.{ℕ, _+_, _≤_, _<_, _/_, _^_}
 use mathlib.Core.Path.{_≡_, refl, sym, ap, _∙_}
 use mathlib.Core.Bool.{Bool, true, false, false≢true}
 use mathlib.Core.List.{List, [], _∷_}
-use mathlib.Core.Logic.{⊎-elim, _⊎_, inl, inr, _↔_}
+use mathlib.Core.Logic.{⊎-elim, _⊎_}
 use native.Mathlib.Omega.{arith}
-use lib.ListN.{length, getD}
+use lib.ListN.{length}
 use Rattle.whole.specs.Tests.{choose}
 use Rattle.whole.specs.Lists.{part}
 use Rattle.whole.proofs.Lists.{length-part}
-use borrow.Author.Tests.{not-true}
 use Rattle.whole.proofs.Tests.{known as if-known}
 use Rattle.octets.specs.Numbers.{Octets, number, bigEndian}
 use Rattle.octets.proofs.Laws.{numbers, part-octets}
@@ -25,19 +24,17 @@ use Rattle.frame.specs.Head.{etherTypeOf, pduOf, flagsOf}
 use Rattle.state.specs.State.{State}
 use Rattle.state.specs.Changed.{put}
 use Rattle.state.specs.Changed as word
-use Rattle.state.specs.WellFormed.{WellFormed, ownMost, alarmMost}
+use Rattle.state.specs.WellFormed.{WellFormed, alarmMost}
 use Rattle.start.specs.Start.{zeroState}
 use Rattle.demands.proofs.Started.{fresh-is, zero-own}
 use Rattle.start.proofs.Starts.{starts}
-use Rattle.tick.specs.Tick.{tickOf}
 use Rattle.tick.proofs.Ticks.{ticks}
 use Rattle.clear.proofs.Clears.{clears}
 use Rattle.demands.specs.Calls as call
-use Rattle.demands.specs.Calls.{Call, Arrival, Answer, refused, dropped, passed, taken, written, loss, delay, delays, done, standing, Outcome, leaves, OnWire, Box}
-use Rattle.demands.specs.Cases.{hold, pdu, opcode, OneOf, StampGood}
+use Rattle.demands.specs.Calls.{Call, Arrival, Answer, refused, dropped, passed, taken, written, loss, delay, delays, done, standing, nothing, Outcome, leaves, OnWire, NoSetting, Box}
+use Rattle.demands.specs.Cases.{hold, pdu, opcode, OneOf}
 use Rattle.demands.specs.Drops.{code}
 use Rattle.demands.specs.Taken.{txf, rxf, txb}
-use Rattle.demands.specs.Started.{AllZero}
 use Rattle.demands.specs.Said as said
 use Rattle.demands.specs.Judged as judging
 use Rattle.demands.specs.Handling as handling
@@ -185,111 +182,58 @@ sentence (table.dmm-3 t b v g h) = (_, (said.by-call (calling.dmm-3 t b v g h), 
 sentence (table.setting-4 t v) = (_, (said.by-call (calling.setting-4 t zeroState v zero-own), refl))
 sentence (table.conditions-2 v) = (_, (said.by-call (calling.conditions-2 v), refl))
 
-left : {s : State} {c : Call} {o : Outcome} → Said s c o → (m : ℕ) → o .answer ≡ refused m → (m ≡ 4 → ⊥) → (o .state ≡ s) × (o .buffer ≡ handed c)
+left : {s : State} {c : Call} {o : Outcome} → Said s c o → (m : ℕ) → o .answer ≡ refused m → (o .state ≡ s) × (o .buffer ≡ handed c)
 unfolding refusalIn isRefused
-left (said.by-rules-1-to-4 (judging.frame-2 a v)) N E H = (refl, refl)
-left (said.by-rules-1-to-4 (judging.frame-1 a v n)) N E H = (refl, refl)
-left (said.by-rules-1-to-4 (judging.frame-6-receive a v l g)) N E H = (refl, refl)
-left (said.by-rules-1-to-4 (judging.frame-6-transmit a v l g)) N E H = (refl, refl)
-left (said.by-rules-1-to-4 (judging.rule-1-received a h k e)) N E H = absurd (false≢true (ap isRefused E))
-left (said.by-rules-1-to-4 (judging.rule-1-sent a h k e)) N E H = absurd (false≢true (ap isRefused E))
-left (said.by-rules-1-to-4 (judging.rule-2-D1 a h e k)) N E H = absurd (false≢true (ap isRefused E))
-left (said.by-rules-1-to-4 (judging.rule-2-above a o k)) N E H = absurd (false≢true (ap isRefused E))
-left (said.by-rules-1-to-4 (judging.rule-2-passive a o e k)) N E H = absurd (false≢true (ap isRefused E))
-left (said.by-rules-1-to-4 (judging.rule-3-ccm a o e k g)) N E H = absurd (false≢true (ap isRefused E))
-left (said.by-rules-1-to-4 (judging.rule-3-other a o e k g)) N E H = absurd (false≢true (ap isRefused E))
-left (said.by-rules-1-to-4 (judging.rule-4-D3 a l k)) N E H = absurd (false≢true (ap isRefused E))
-left (said.by-rules-1-to-4 (judging.rule-4-D4 a l k)) N E H = absurd (false≢true (ap isRefused E))
-left (said.by-rules-1-to-4 (judging.rule-4-D5 a least l h k d)) N E H = absurd (false≢true (ap isRefused E))
-left (said.by-rules-1-to-4 (judging.rule-4-D6 a least l h k u d)) N E H = absurd (false≢true (ap isRefused E))
-left (said.by-rules-1-to-4 (judging.rule-4-D7-ccm a l q e z)) N E H = absurd (false≢true (ap isRefused E))
-left (said.by-rules-1-to-4 (judging.rule-4-D7-alarm a l q e z)) N E H = absurd (false≢true (ap isRefused E))
-left (said.by-rules-1-to-4 (judging.rule-4-D7-delay a l k)) N E H = absurd (false≢true (ap isRefused E))
-left (said.by-rules-5-to-8 (handling.rule-5-mismerge a k m)) N E H = absurd (false≢true (ap isRefused E))
-left (said.by-rules-5-to-8 (handling.rule-5-mep a k m u)) N E H = absurd (false≢true (ap isRefused E))
-left (said.by-rules-5-to-8 (handling.rule-5-peer a k p e)) N E H = absurd (false≢true (ap isRefused E))
-left (said.by-rules-5-to-8 (handling.rule-5-period a k p e)) N E H = absurd (false≢true (ap isRefused E))
-left (said.by-rules-5-to-8 (handling.rule-5-ais a l q e o)) N E H = absurd (false≢true (ap isRefused E))
-left (said.by-rules-5-to-8 (handling.rule-5-lck a l q e o)) N E H = absurd (false≢true (ap isRefused E))
-left (said.by-rules-5-to-8 (handling.rule-6 a reply l q r h)) N E H = absurd (false≢true (ap isRefused E))
-left (said.by-rules-5-to-8 (handling.frame-3 a reply l q r h)) N E H = (refl, refl)
-left (said.by-rules-5-to-8 (handling.rule-7-first a l k)) N E H = absurd (false≢true (ap isRefused E))
-left (said.by-rules-5-to-8 (handling.rule-7-later a l k m)) N E H = absurd (false≢true (ap isRefused E))
-left (said.by-rules-5-to-8 (handling.frame-5 a l k m)) N E H = (refl, refl)
-left (said.by-rules-5-to-8 (handling.rule-8-two-way a g p h)) N E H = absurd (false≢true (ap isRefused E))
-left (said.by-rules-5-to-8 (handling.rule-8-all-ways a g p x y z)) N E H = absurd (false≢true (ap isRefused E))
-left (said.by-rules-5-to-8 (handling.rule-8-D8-two-way a g p h)) N E H = absurd (false≢true (ap isRefused E))
-left (said.by-rules-5-to-8 (handling.rule-8-D8-all-ways a g p h)) N E H = absurd (false≢true (ap isRefused E))
-left (said.by-call (calling.clear-2 v)) N E H = (refl, refl)
-left (said.by-call (calling.clears v)) N E H = absurd (false≢true (ap isRefused E))
-left (said.by-call (calling.tick-2 b v)) N E H = (refl, refl)
-left (said.by-call (calling.tick-lowers b v h)) N E H = absurd (false≢true (ap isRefused E))
-left (said.by-call (calling.tick-3 b v e h)) N E H = (refl, refl)
-left (said.by-call (calling.tick-sends b rdi v e h f)) N E H = absurd (false≢true (ap isRefused E))
-left (said.by-call (calling.lmm-2 b v)) N E H = (refl, refl)
-left (said.by-call (calling.lmm-3 b v h)) N E H = (refl, refl)
-left (said.by-call (calling.lmm-sends b v h)) N E H = absurd (false≢true (ap isRefused E))
-left (said.by-call (calling.dmm-2 t b v)) N E H = (refl, refl)
-left (said.by-call (calling.dmm-6 t b v g)) N E H = (refl, refl)
-left (said.by-call (calling.dmm-3 t b v g h)) N E H = (refl, refl)
-left (said.by-call (calling.dmm-sends t b v g h)) N E H = absurd (false≢true (ap isRefused E))
-left (said.by-call (calling.setting-4 t z v h)) N E H = absurd (H (sym (ap refusalIn E)))
-left (said.by-call (calling.setting-starts t f v h)) N E H = absurd (false≢true (ap isRefused E))
-left (said.by-call (calling.conditions-2 v)) N E H = (refl, refl)
-left (said.by-call (calling.conditions-show r v h)) N E H = absurd (false≢true (ap isRefused E))
-
-left-4 : {s : State} {c : Call} {o : Outcome} → Said s c o → o .answer ≡ refused 4 → AllZero (o .state) × (o .buffer ≡ handed c)
-unfolding refusalIn isRefused
-left-4 (said.by-rules-1-to-4 (judging.frame-2 a v)) E = let z : _≡_ {A = ℕ} 2 4 = ap refusalIn E in absurd (omega (arith, z))
-left-4 (said.by-rules-1-to-4 (judging.frame-1 a v n)) E = let z : _≡_ {A = ℕ} 1 4 = ap refusalIn E in absurd (omega (arith, z))
-left-4 (said.by-rules-1-to-4 (judging.frame-6-receive a v l g)) E = let z : _≡_ {A = ℕ} 6 4 = ap refusalIn E in absurd (omega (arith, z))
-left-4 (said.by-rules-1-to-4 (judging.frame-6-transmit a v l g)) E = let z : _≡_ {A = ℕ} 6 4 = ap refusalIn E in absurd (omega (arith, z))
-left-4 (said.by-rules-1-to-4 (judging.rule-1-received a h k e)) E = absurd (false≢true (ap isRefused E))
-left-4 (said.by-rules-1-to-4 (judging.rule-1-sent a h k e)) E = absurd (false≢true (ap isRefused E))
-left-4 (said.by-rules-1-to-4 (judging.rule-2-D1 a h e k)) E = absurd (false≢true (ap isRefused E))
-left-4 (said.by-rules-1-to-4 (judging.rule-2-above a o k)) E = absurd (false≢true (ap isRefused E))
-left-4 (said.by-rules-1-to-4 (judging.rule-2-passive a o e k)) E = absurd (false≢true (ap isRefused E))
-left-4 (said.by-rules-1-to-4 (judging.rule-3-ccm a o e k g)) E = absurd (false≢true (ap isRefused E))
-left-4 (said.by-rules-1-to-4 (judging.rule-3-other a o e k g)) E = absurd (false≢true (ap isRefused E))
-left-4 (said.by-rules-1-to-4 (judging.rule-4-D3 a l k)) E = absurd (false≢true (ap isRefused E))
-left-4 (said.by-rules-1-to-4 (judging.rule-4-D4 a l k)) E = absurd (false≢true (ap isRefused E))
-left-4 (said.by-rules-1-to-4 (judging.rule-4-D5 a least l h k d)) E = absurd (false≢true (ap isRefused E))
-left-4 (said.by-rules-1-to-4 (judging.rule-4-D6 a least l h k u d)) E = absurd (false≢true (ap isRefused E))
-left-4 (said.by-rules-1-to-4 (judging.rule-4-D7-ccm a l q e z)) E = absurd (false≢true (ap isRefused E))
-left-4 (said.by-rules-1-to-4 (judging.rule-4-D7-alarm a l q e z)) E = absurd (false≢true (ap isRefused E))
-left-4 (said.by-rules-1-to-4 (judging.rule-4-D7-delay a l k)) E = absurd (false≢true (ap isRefused E))
-left-4 (said.by-rules-5-to-8 (handling.rule-5-mismerge a k m)) E = absurd (false≢true (ap isRefused E))
-left-4 (said.by-rules-5-to-8 (handling.rule-5-mep a k m u)) E = absurd (false≢true (ap isRefused E))
-left-4 (said.by-rules-5-to-8 (handling.rule-5-peer a k p e)) E = absurd (false≢true (ap isRefused E))
-left-4 (said.by-rules-5-to-8 (handling.rule-5-period a k p e)) E = absurd (false≢true (ap isRefused E))
-left-4 (said.by-rules-5-to-8 (handling.rule-5-ais a l q e o)) E = absurd (false≢true (ap isRefused E))
-left-4 (said.by-rules-5-to-8 (handling.rule-5-lck a l q e o)) E = absurd (false≢true (ap isRefused E))
-left-4 (said.by-rules-5-to-8 (handling.rule-6 a reply l q r h)) E = absurd (false≢true (ap isRefused E))
-left-4 (said.by-rules-5-to-8 (handling.frame-3 a reply l q r h)) E = let z : _≡_ {A = ℕ} 3 4 = ap refusalIn E in absurd (omega (arith, z))
-left-4 (said.by-rules-5-to-8 (handling.rule-7-first a l k)) E = absurd (false≢true (ap isRefused E))
-left-4 (said.by-rules-5-to-8 (handling.rule-7-later a l k m)) E = absurd (false≢true (ap isRefused E))
-left-4 (said.by-rules-5-to-8 (handling.frame-5 a l k m)) E = let z : _≡_ {A = ℕ} 5 4 = ap refusalIn E in absurd (omega (arith, z))
-left-4 (said.by-rules-5-to-8 (handling.rule-8-two-way a g p h)) E = absurd (false≢true (ap isRefused E))
-left-4 (said.by-rules-5-to-8 (handling.rule-8-all-ways a g p x y z)) E = absurd (false≢true (ap isRefused E))
-left-4 (said.by-rules-5-to-8 (handling.rule-8-D8-two-way a g p h)) E = absurd (false≢true (ap isRefused E))
-left-4 (said.by-rules-5-to-8 (handling.rule-8-D8-all-ways a g p h)) E = absurd (false≢true (ap isRefused E))
-left-4 (said.by-call (calling.clear-2 v)) E = let z : _≡_ {A = ℕ} 2 4 = ap refusalIn E in absurd (omega (arith, z))
-left-4 (said.by-call (calling.clears v)) E = absurd (false≢true (ap isRefused E))
-left-4 (said.by-call (calling.tick-2 b v)) E = let z : _≡_ {A = ℕ} 2 4 = ap refusalIn E in absurd (omega (arith, z))
-left-4 (said.by-call (calling.tick-lowers b v h)) E = absurd (false≢true (ap isRefused E))
-left-4 (said.by-call (calling.tick-3 b v e h)) E = let z : _≡_ {A = ℕ} 3 4 = ap refusalIn E in absurd (omega (arith, z))
-left-4 (said.by-call (calling.tick-sends b rdi v e h f)) E = absurd (false≢true (ap isRefused E))
-left-4 (said.by-call (calling.lmm-2 b v)) E = let z : _≡_ {A = ℕ} 2 4 = ap refusalIn E in absurd (omega (arith, z))
-left-4 (said.by-call (calling.lmm-3 b v h)) E = let z : _≡_ {A = ℕ} 3 4 = ap refusalIn E in absurd (omega (arith, z))
-left-4 (said.by-call (calling.lmm-sends b v h)) E = absurd (false≢true (ap isRefused E))
-left-4 (said.by-call (calling.dmm-2 t b v)) E = let z : _≡_ {A = ℕ} 2 4 = ap refusalIn E in absurd (omega (arith, z))
-left-4 (said.by-call (calling.dmm-6 t b v g)) E = let z : _≡_ {A = ℕ} 6 4 = ap refusalIn E in absurd (omega (arith, z))
-left-4 (said.by-call (calling.dmm-3 t b v g h)) E = let z : _≡_ {A = ℕ} 3 4 = ap refusalIn E in absurd (omega (arith, z))
-left-4 (said.by-call (calling.dmm-sends t b v g h)) E = absurd (false≢true (ap isRefused E))
-left-4 (said.by-call (calling.setting-4 t z v h)) E = (h, refl)
-left-4 (said.by-call (calling.setting-starts t f v h)) E = absurd (false≢true (ap isRefused E))
-left-4 (said.by-call (calling.conditions-2 v)) E = let z : _≡_ {A = ℕ} 2 4 = ap refusalIn E in absurd (omega (arith, z))
-left-4 (said.by-call (calling.conditions-show r v h)) E = absurd (false≢true (ap isRefused E))
+left (said.by-rules-1-to-4 (judging.frame-2 a v)) N E = (refl, refl)
+left (said.by-rules-1-to-4 (judging.frame-1 a v n)) N E = (refl, refl)
+left (said.by-rules-1-to-4 (judging.frame-6-receive a v l g)) N E = (refl, refl)
+left (said.by-rules-1-to-4 (judging.frame-6-transmit a v l g)) N E = (refl, refl)
+left (said.by-rules-1-to-4 (judging.rule-1-received a h k e)) N E = absurd (false≢true (ap isRefused E))
+left (said.by-rules-1-to-4 (judging.rule-1-sent a h k e)) N E = absurd (false≢true (ap isRefused E))
+left (said.by-rules-1-to-4 (judging.rule-2-D1 a h e k)) N E = absurd (false≢true (ap isRefused E))
+left (said.by-rules-1-to-4 (judging.rule-2-above a o k)) N E = absurd (false≢true (ap isRefused E))
+left (said.by-rules-1-to-4 (judging.rule-2-passive a o e k)) N E = absurd (false≢true (ap isRefused E))
+left (said.by-rules-1-to-4 (judging.rule-3-ccm a o e k g)) N E = absurd (false≢true (ap isRefused E))
+left (said.by-rules-1-to-4 (judging.rule-3-other a o e k g)) N E = absurd (false≢true (ap isRefused E))
+left (said.by-rules-1-to-4 (judging.rule-4-D3 a l k)) N E = absurd (false≢true (ap isRefused E))
+left (said.by-rules-1-to-4 (judging.rule-4-D4 a l k)) N E = absurd (false≢true (ap isRefused E))
+left (said.by-rules-1-to-4 (judging.rule-4-D5 a least l h k d)) N E = absurd (false≢true (ap isRefused E))
+left (said.by-rules-1-to-4 (judging.rule-4-D6 a least l h k u d)) N E = absurd (false≢true (ap isRefused E))
+left (said.by-rules-1-to-4 (judging.rule-4-D7-ccm a l q e z)) N E = absurd (false≢true (ap isRefused E))
+left (said.by-rules-1-to-4 (judging.rule-4-D7-alarm a l q e z)) N E = absurd (false≢true (ap isRefused E))
+left (said.by-rules-1-to-4 (judging.rule-4-D7-delay a l k)) N E = absurd (false≢true (ap isRefused E))
+left (said.by-rules-5-to-8 (handling.rule-5-mismerge a k m)) N E = absurd (false≢true (ap isRefused E))
+left (said.by-rules-5-to-8 (handling.rule-5-mep a k m u)) N E = absurd (false≢true (ap isRefused E))
+left (said.by-rules-5-to-8 (handling.rule-5-peer a k p e)) N E = absurd (false≢true (ap isRefused E))
+left (said.by-rules-5-to-8 (handling.rule-5-period a k p e)) N E = absurd (false≢true (ap isRefused E))
+left (said.by-rules-5-to-8 (handling.rule-5-ais a l q e o)) N E = absurd (false≢true (ap isRefused E))
+left (said.by-rules-5-to-8 (handling.rule-5-lck a l q e o)) N E = absurd (false≢true (ap isRefused E))
+left (said.by-rules-5-to-8 (handling.rule-6 a reply l q r h)) N E = absurd (false≢true (ap isRefused E))
+left (said.by-rules-5-to-8 (handling.frame-3 a reply l q r h)) N E = (refl, refl)
+left (said.by-rules-5-to-8 (handling.rule-7-first a l k)) N E = absurd (false≢true (ap isRefused E))
+left (said.by-rules-5-to-8 (handling.rule-7-later a l k m)) N E = absurd (false≢true (ap isRefused E))
+left (said.by-rules-5-to-8 (handling.frame-5 a l k m)) N E = (refl, refl)
+left (said.by-rules-5-to-8 (handling.rule-8-two-way a g p h)) N E = absurd (false≢true (ap isRefused E))
+left (said.by-rules-5-to-8 (handling.rule-8-all-ways a g p x y z)) N E = absurd (false≢true (ap isRefused E))
+left (said.by-rules-5-to-8 (handling.rule-8-D8-two-way a g p h)) N E = absurd (false≢true (ap isRefused E))
+left (said.by-rules-5-to-8 (handling.rule-8-D8-all-ways a g p h)) N E = absurd (false≢true (ap isRefused E))
+left (said.by-call (calling.clear-2 v)) N E = (refl, refl)
+left (said.by-call (calling.clears v)) N E = absurd (false≢true (ap isRefused E))
+left (said.by-call (calling.tick-2 b v)) N E = (refl, refl)
+left (said.by-call (calling.tick-lowers b v h)) N E = absurd (false≢true (ap isRefused E))
+left (said.by-call (calling.tick-3 b v e h)) N E = (refl, refl)
+left (said.by-call (calling.tick-sends b rdi v e h f)) N E = absurd (false≢true (ap isRefused E))
+left (said.by-call (calling.lmm-2 b v)) N E = (refl, refl)
+left (said.by-call (calling.lmm-3 b v h)) N E = (refl, refl)
+left (said.by-call (calling.lmm-sends b v h)) N E = absurd (false≢true (ap isRefused E))
+left (said.by-call (calling.dmm-2 t b v)) N E = (refl, refl)
+left (said.by-call (calling.dmm-6 t b v g)) N E = (refl, refl)
+left (said.by-call (calling.dmm-3 t b v g h)) N E = (refl, refl)
+left (said.by-call (calling.dmm-sends t b v g h)) N E = absurd (false≢true (ap isRefused E))
+left (said.by-call (calling.setting-4 t z v h)) N E = (refl, refl)
+left (said.by-call (calling.setting-starts t f v h)) N E = absurd (false≢true (ap isRefused E))
+left (said.by-call (calling.conditions-2 v)) N E = (refl, refl)
+left (said.by-call (calling.conditions-show r v h)) N E = absurd (false≢true (ap isRefused E))
 
 -- ── drops ──
 
@@ -501,19 +445,30 @@ stays-frame {s} O W (said.by-rules-5-to-8 (handling.rule-8-all-ways a g p x y z)
 stays-frame {s} O W (said.by-rules-5-to-8 (handling.rule-8-D8-two-way a g p h)) = W
 stays-frame {s} O W (said.by-rules-5-to-8 (handling.rule-8-D8-all-ways a g p h)) = W
 
-stays-setting : {s : State} {t : Settings} {o : Outcome} → Said s (call.new-setting t) o → (o .answer ≡ refused 4 → ⊥) → WellFormed (o .state)
-stays-setting (said.by-call (calling.setting-4 t z v h)) n = absurd (n refl)
-stays-setting (said.by-call (calling.setting-starts t f v h)) n = rw (← fresh-is t f h) (starts .well t v)
+stays-setting : {s : State} {t : Settings} {o : Outcome} → WellFormed s → Said s (call.new-setting t) o → WellFormed (o .state)
+stays-setting w (said.by-call (calling.setting-4 t z v h)) = w
+stays-setting w (said.by-call (calling.setting-starts t f v h)) = rw (← fresh-is t f h) (starts .well t v)
 
 -- what a call leaves, our box's as any other's
-stays : (s : State) (c : Call) (o : Outcome) → OnWire c → WellFormed s → Said s c o → (o .answer ≡ refused 4 → ⊥) → WellFormed (o .state)
-stays s (call.new-setting t) o u w p n = stays-setting p n
-stays s (call.frame a) o u w p n = stays-frame (u .octets) w p
-stays s (call.tick b) o u w p n = rw (← ap (λ (x : Outcome). x .state) (ours-follows .box .follows s (call.tick b) o u p)) (ticks .stays s b w)
-stays s call.clear o u w p n = rw (← ap (λ (x : Outcome). x .state) (ours-follows .box .follows s call.clear o u p)) (clears .stays s w)
-stays s (call.send-LMM b) o u w p n = rw (← ap (λ (x : Outcome). x .state) (ours-follows .box .follows s (call.send-LMM b) o u p)) w
-stays s (call.send-DMM t b) o u w p n = rw (← ap (λ (x : Outcome). x .state) (ours-follows .box .follows s (call.send-DMM t b) o u p)) w
-stays s call.conditions o u w p n = rw (← ap (λ (x : Outcome). x .state) (ours-follows .box .follows s call.conditions o u p)) w
+stays : (s : State) (c : Call) (o : Outcome) → OnWire c → WellFormed s → Said s c o → WellFormed (o .state)
+stays s (call.new-setting t) o u w p = stays-setting w p
+stays s (call.frame a) o u w p = stays-frame (u .octets) w p
+stays s (call.tick b) o u w p = rw (← ap (λ (x : Outcome). x .state) (ours-follows .box .follows s (call.tick b) o u p)) (ticks .stays s b w)
+stays s call.clear o u w p = rw (← ap (λ (x : Outcome). x .state) (ours-follows .box .follows s call.clear o u p)) (clears .stays s w)
+stays s (call.send-LMM b) o u w p = rw (← ap (λ (x : Outcome). x .state) (ours-follows .box .follows s (call.send-LMM b) o u p)) w
+stays s (call.send-DMM t b) o u w p = rw (← ap (λ (x : Outcome). x .state) (ours-follows .box .follows s (call.send-DMM t b) o u p)) w
+stays s call.conditions o u w p = rw (← ap (λ (x : Outcome). x .state) (ours-follows .box .follows s call.conditions o u p)) w
+
+-- ── what is handed out ──
+
+nothing-out : (s : State) (c : Call) → NoSetting c → ours s c .out ≡ nothing
+nothing-out s (call.new-setting t) k = absurd (k t refl)
+nothing-out s (call.frame a) k = refl
+nothing-out s (call.tick b) k = refl
+nothing-out s call.clear k = refl
+nothing-out s (call.send-LMM b) k = refl
+nothing-out s (call.send-DMM t b) k = refl
+nothing-out s call.conditions k = refl
 
 -- ── all of it, for every box that follows ──
 
@@ -523,15 +478,15 @@ promised B F = record {
     λ e. let x = every-call s c u in line (x .1) n (sym (ap (λ (o : Outcome). o .answer) (F .follows s c (x .0) u (x .1))) ∙ e),
     λ r. let x = sentence r in ap (λ (o : Outcome). o .answer) (F .follows s c (x .0) u (x .1 .0)) ∙ x .1 .1,
   );
-  left = λ s c n u e h. let x = every-call s c u in let y = F .follows s c (x .0) u (x .1) in
-      rw y (left (x .1) n (sym (ap (λ (o : Outcome). o .answer) y) ∙ e) h);
-  left-4 = λ s c u e. let x = every-call s c u in let y = F .follows s c (x .0) u (x .1) in
-      rw y (left-4 (x .1) (sym (ap (λ (o : Outcome). o .answer) y) ∙ e));
+  left = λ s c n u e. let x = every-call s c u in let y = F .follows s c (x .0) u (x .1) in
+      rw y (left (x .1) n (sym (ap (λ (o : Outcome). o .answer) y) ∙ e));
+  hands-nothing = λ s c u k. let x = every-call s c u in
+      ap (λ (o : Outcome). o .out) (F .follows s c (x .0) u (x .1) ∙ sym (ours-follows .box .follows s c (x .0) u (x .1))) ∙ nothing-out s c k;
+  zeros = λ s t u h. (zeroState, zero-own, F .follows s (call.new-setting t) _ u (said.by-call (calling.setting-4 t zeroState h zero-own)));
   drops = λ s c n u e h. let x = every-call s c u in let y = F .follows s c (x .0) u (x .1) in
       rw y (drops (x .1) n (sym (ap (λ (o : Outcome). o .answer) y) ∙ e) h);
   remembers = λ s c u r. F .follows s c _ u (remembered r);
-  stays = λ s c u w n. let x = every-call s c u in let y = F .follows s c (x .0) u (x .1) in
-      rw y (stays s c (x .0) u w (x .1) (λ e. n (ap (λ (o : Outcome). o .answer) y ∙ e)));
+  stays = λ s c u w. let x = every-call s c u in let y = F .follows s c (x .0) u (x .1) in rw y (stays s c (x .0) u w (x .1));
   uncounted = λ s a u e. let x = every-call s (call.frame a) u in let y = F .follows s (call.frame a) (x .0) u (x .1) in
       rw y (uncounted (x .1) e);
   never-D8 = λ s a u e. let x = every-call s (call.frame a) u in never-D8 (u .octets) (u .receive) (x .1) (sym (ap (λ (o : Outcome). o .answer) (F .follows s (call.frame a) (x .0) u (x .1))) ∙ e);

@@ -1,25 +1,27 @@
--- Three boxes that do not follow the paper, by a setting that is written out. Assumes nothing.
+-- Three boxes that do not follow the paper, by a setting that is written out and the state that it starts with. Assumes nothing.
 use Prim.Native.Nat.{ℕ}
+use native.Mathlib.Omega.{arith}
 use mathlib.Core.Path.{_≡_, refl, sym, ap, _∙_}
 use mathlib.Core.Bool.{Bool, true, false, false≢true, true≢false}
 use mathlib.Core.List.{List, [], _∷_}
 use lib.ListN.{replicate}
 use Rattle.whole.specs.Lists.{every, everyPair, distinct}
+use Rattle.period.specs.Periods.{ticksOf}
 use Rattle.settings.specs.Settings.{Settings}
 use Rattle.settings.specs.Valid.{Valid, valid}
 use Rattle.peerids.specs.Ids.{peersGood}
 use Rattle.settings.proofs.Rules.{valid-is}
 use Rattle.state.specs.State.{State}
 use Rattle.state.specs.WellFormed.{WellFormed}
-use Rattle.start.specs.Start.{startOf, zeroState}
+use Rattle.start.specs.Start.{startOf}
 use Rattle.start.proofs.Starts.{starts}
 use Rattle.demands.specs.Calls as call
-use Rattle.demands.specs.Calls.{Call, Answer, refused, done, Outcome, Box}
+use Rattle.demands.specs.Calls.{Answer, refused, written, done, Outcome, Box}
 use Rattle.demands.specs.Said as said
 use Rattle.demands.specs.Called as calling
 use Rattle.demands.specs.Ours.{Follows}
+use Rattle.demands.proofs.Other.{isSetting, other}
 use Rattle.promised.specs.Promised.{ShutOut}
-use Rattle.demands.proofs.Started.{fresh-own, zero-own}
 use Rattle.promised.proofs.Promised.{isRefused}
 
 -- level 4, MEP ID 9, period code 1, one peer
@@ -39,24 +41,51 @@ good : Valid setting
 unfolding setting valid peersGood every everyPair distinct
 good = valid-is .valid-is setting .0 refl
 
-module _ (B : Box) (F : Follows B) where
-  -- it is taken, in any state, and leaves the state that it starts with
-  taken : (s : State) → B s (call.new-setting setting) ≡ call.leaves done (startOf setting) []
-  taken s = F .follows s (call.new-setting setting) _ tt (said.by-call (calling.setting-starts setting (startOf setting) good (fresh-own setting)))
+well : WellFormed (startOf setting)
+well = starts .well setting good
 
-  -- the settings of the all-zero state are refused
-  refused-zero : B zeroState (call.new-setting (zeroState .settings)) ≡ call.leaves (refused 4) zeroState []
-  unfolding valid
-  refused-zero = F .follows zeroState (call.new-setting (zeroState .settings)) _ tt
-      (said.by-call (calling.setting-4 (zeroState .settings) zeroState (λ v. false≢true (valid-is .valid-is (zeroState .settings) .1 v)) zero-own))
+abbrev room : List ℕ
+room = replicate 31 0
+
+isDone : Answer → Bool
+isDone done = true
+isDone (refused n) = false
+isDone (call.dropped n) = false
+isDone call.passed = false
+isDone call.taken = false
+isDone (written n) = false
+isDone (call.loss n f) = false
+isDone (call.delay d) = false
+isDone (call.delays d f n) = false
+isDone (call.standing r) = false
+
+due : startOf setting .next ≡ 2
+unfolding ticksOf setting
+due = refl
+
+-- the state that the setting starts with: a clear of it is done, and a tick lowers its timers
+module _ (B : Box) (F : Follows B) where
+  cleared : B (startOf setting) call.clear .answer ≡ done
+  cleared = ap (λ (o : Outcome). o .answer) (F .follows (startOf setting) call.clear _ tt (said.by-call (calling.clears (starts .well setting good))))
+
+  -- and an LMM is written where there is room for it
+  asked : B (startOf setting) (call.send-LMM room) .answer ≡ written 31
+  asked = ap (λ (o : Outcome). o .answer) (F .follows (startOf setting) (call.send-LMM room) _ tt (said.by-call (calling.lmm-sends room (starts .well setting good) (omega arith))))
+
+  ticked : B (startOf setting) (call.tick []) .state .next ≡ 1
+  unfolding ticksOf setting
+  ticked = ap (λ (o : Outcome). o .state .next) (F .follows (startOf setting) (call.tick []) _ tt (said.by-call (calling.tick-lowers [] (starts .well setting good) (omega arith))))
 
 pub shut-out : ShutOut
-unfolding isRefused
+unfolding isRefused isSetting isDone
 shut-out = record {
-  refuses-all = λ B F all. let x = all zeroState (call.new-setting setting) in
-      false≢true (ap isRefused (sym (ap (λ (o : Outcome). o .answer) (taken B F zeroState)) ∙ x .1));
-  fixed = λ B o F all.
-      false≢true (ap (λ (x : Outcome). isRefused (x .answer)) (sym (taken B F zeroState) ∙ all zeroState (call.new-setting setting) ∙ sym (all zeroState (call.new-setting (zeroState .settings))) ∙ refused-zero B F));
+  refuses-all = λ B F all. let x = all (startOf setting) call.clear well (other call.clear refl) in
+      false≢true (ap isRefused (sym (cleared B F) ∙ x .1));
+  fixed = λ B x F all.
+      let e = all (startOf setting) call.clear well (other call.clear refl) ∙ sym (all (startOf setting) (call.send-LMM room) well (other (call.send-LMM room) refl)) in
+      true≢false (ap isDone (sym (cleared B F) ∙ e ∙ asked B F));
   touches-nothing = λ B F all.
-      starts .zero-not (rw (sym (ap (λ (o : Outcome). o .state) (taken B F zeroState)) ∙ all zeroState (call.new-setting setting)) at (starts .well setting good));
+      let e = ap (λ (s : State). s .next) (all (startOf setting) (call.tick []) well (other (call.tick []) refl)) in
+      let x = ticked B F in
+      omega (arith, e, x, due);
 }

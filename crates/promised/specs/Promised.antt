@@ -3,13 +3,15 @@
 use Prim.Native.Nat.{ℕ}
 use mathlib.Core.Path.{_≡_}
 use mathlib.Core.Logic.{_↔_}
+use Rattle.settings.specs.Settings.{Settings}
+use Rattle.settings.specs.Valid.{Valid}
 use Rattle.state.specs.State.{State}
 use Rattle.state.specs.Changed.{put}
 use Rattle.state.specs.Changed as word
 use Rattle.state.specs.WellFormed.{WellFormed}
 use Rattle.frame.specs.Head.{etherTypeOf}
 use Rattle.ccmfields.specs.Ccm.{ccmIn, megIn}
-use Rattle.demands.specs.Calls.{Arrival, Call, frame, refused, dropped, taken, Outcome, leaves, OnWire, Box}
+use Rattle.demands.specs.Calls.{Arrival, Call, new-setting, frame, Answer, refused, dropped, taken, nothing, Outcome, leaves, hands-out, OnWire, NoSetting, Box}
 use Rattle.demands.specs.Cases.{pdu, hold}
 use Rattle.demands.specs.Taken.{OwnCcm}
 use Rattle.demands.specs.Started.{AllZero}
@@ -22,14 +24,17 @@ use Rattle.promised.specs.Refusals.{Refusal, Remembered, handed}
 pub record Promised (B : Box) : Type 0 where
   -- each number exactly where its line holds and no earlier one of the order does; a number that a call's lines do not have is never given
   pub refuses : (s : State) (c : Call) (n : ℕ) → OnWire c → (B s c .answer ≡ refused n) ↔ Refusal s c n
-  -- a refused call leaves state and buffer the same, whatever they held; but a refused setting hands out the all-zero state
-  pub left : (s : State) (c : Call) (n : ℕ) → OnWire c → B s c .answer ≡ refused n → (n ≡ 4 → ⊥) → (B s c .state ≡ s) × (B s c .buffer ≡ handed c)
-  pub left-4 : (s : State) (c : Call) → OnWire c → B s c .answer ≡ refused 4 → AllZero (B s c .state) × (B s c .buffer ≡ handed c)
+  -- a refused call leaves state and buffer the same, whatever call it is and whatever they held
+  pub left : (s : State) (c : Call) (n : ℕ) → OnWire c → B s c .answer ≡ refused n → (B s c .state ≡ s) × (B s c .buffer ≡ handed c)
+  -- only a new setting hands something out; a refused one hands out the all-zero state
+  pub hands-nothing : (s : State) (c : Call) → OnWire c → NoSetting c → B s c .out ≡ nothing
+  pub zeros : (s : State) (t : Settings) → OnWire (new-setting t) → (Valid t → ⊥)
+      → (zero : State) × AllZero zero × (B s (new-setting t) ≡ hands-out (refused 4) s zero)
   -- a drop writes nothing, and changes nothing but the timer of rule 3, and that only there
   pub drops : (s : State) (c : Call) (n : ℕ) → OnWire c → B s c .answer ≡ dropped n → (Remembered s c → ⊥) → (B s c .state ≡ s) × (B s c .buffer ≡ handed c)
   pub remembers : (s : State) (c : Call) → OnWire c → Remembered s c → B s c ≡ leaves (dropped 2) (put word.unexpected-level (hold s) s) (handed c)
-  -- a well-formed state stays so, but for a refused setting
-  pub stays : (s : State) (c : Call) → OnWire c → WellFormed s → (B s c .answer ≡ refused 4 → ⊥) → WellFormed (B s c .state)
+  -- a well-formed state stays so, whatever the call
+  pub stays : (s : State) (c : Call) → OnWire c → WellFormed s → WellFormed (B s c .state)
   -- OAM frames never change the service counts
   pub uncounted : (s : State) (a : Arrival) → OnWire (frame a) → etherTypeOf (a .octets) ≡ 0x8902 → (B s (frame a) .state .sent ≡ s .sent) × (B s (frame a) .state .received ≡ s .received)
   -- D8 is never given: no stamps of the wire are so far apart
@@ -47,12 +52,13 @@ pub record Promises : Type 0 where
   -- and all of the above holds of each of them
   pub kept : (B : Box) → Follows B → Promised B
 
--- ── boxes that do not follow the paper ──
+-- ── boxes that do not follow the paper, though each may do all that it should at a new setting and with a bad state ──
 
 pub record ShutOut : Type 0 where
-  -- one that refuses everything
-  pub refuses-all : (B : Box) → Follows B → ((s : State) (c : Call) → (n : ℕ) × (B s c .answer ≡ refused n)) → ⊥
-  -- one with a fixed result, whatever it is
-  pub fixed : (B : Box) (o : Outcome) → Follows B → ((s : State) (c : Call) → B s c ≡ o) → ⊥
-  -- one that touches nothing
-  pub touches-nothing : (B : Box) → Follows B → ((s : State) (c : Call) → B s c .state ≡ s) → ⊥
+  -- one that refuses every other call
+  pub refuses-all : (B : Box) → Follows B
+      → ((s : State) (c : Call) → WellFormed s → NoSetting c → (n : ℕ) × (B s c .answer ≡ refused n)) → ⊥
+  -- one that gives every other call the same answer, whichever it is
+  pub fixed : (B : Box) (x : Answer) → Follows B → ((s : State) (c : Call) → WellFormed s → NoSetting c → B s c .answer ≡ x) → ⊥
+  -- one that touches nothing at any other call
+  pub touches-nothing : (B : Box) → Follows B → ((s : State) (c : Call) → WellFormed s → NoSetting c → B s c .state ≡ s) → ⊥

@@ -2,6 +2,8 @@ pub mod Asked
 pub mod Timers
 pub mod Lines
 pub mod Steps
+pub mod Runs
+pub mod Answers
 pub mod Meets
 pub mod Timely
 pub mod Tight

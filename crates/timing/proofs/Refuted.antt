@@ -1,41 +1,39 @@
 -- Boxes that are out of time, by a setting and runs that are written out. Assumes nothing.
-use Prim.Native.Nat.{ℕ, _-_, _%_, _≤_, _∣_}
-use mathlib.Core.Path.{_≡_, refl, sym, ap, subst, _∙_}
-use mathlib.Core.Bool.{Bool, true, false, false≢true}
+use Prim.Native.Nat.{ℕ, _%_, _≤_, _∣_}
+use mathlib.Core.Path.{_≡_, refl, ap, subst}
+use mathlib.Core.Bool.{Bool, true, false, cond, false≢true}
 use mathlib.Core.List.{List, [], _∷_}
 use native.Mathlib.Omega.{arith}
-use native.Mathlib.Nat.{mod-eq-zero-of-dvd}
-use lib.ListN.{length, getD, replicate}
+use native.Mathlib.Nat.{mod-eq-zero-of-dvd, dvd-mul-left}
+use lib.ListN.{length, replicate}
 use Rattle.whole.specs.Lists.{every, everyPair, distinct}
+use Rattle.octets.proofs.Written.{octets-of}
 use Rattle.clock.specs.Run.{after}
-use Rattle.period.specs.Periods.{ticksOf, holdOf}
+use Rattle.period.specs.Periods.{ticksOf}
 use Rattle.settings.specs.Settings.{Settings}
-use Rattle.settings.specs.Valid.{Valid, valid}
+use Rattle.settings.specs.Valid.{valid}
 use Rattle.peerids.specs.Ids.{peersGood}
 use Rattle.settings.proofs.Rules.{valid-is}
 use Rattle.state.specs.State.{State}
-use Rattle.state.specs.Changed.{put, next}
+use Rattle.state.specs.Changed.{next}
 use Rattle.state.specs.WellFormed.{WellFormed}
 use Rattle.start.specs.Start.{startOf, zeroState}
 use Rattle.start.proofs.Starts.{starts}
 use Rattle.demands.specs.Calls as call
-use Rattle.demands.specs.Calls.{Call, Answer, refused, written, done, Outcome, Box}
-use Rattle.demands.specs.Standing.{Flag, on, off}
+use Rattle.demands.specs.Calls.{Call, Answer, refused, written, done, Outcome, NoSetting, Box}
+use Rattle.demands.specs.Started.{Settable}
 use Rattle.demands.specs.Said as said
 use Rattle.demands.specs.Called as calling
 use Rattle.demands.specs.Said.{Said}
 use Rattle.demands.specs.Ours.{ours}
 use Rattle.demands.proofs.Follows.{ours-follows}
-use Rattle.demands.proofs.Started.{fresh-own}
 use Rattle.promised.proofs.Kept.{put-well}
-use Rattle.timing.specs.Runs.{Each, ticksIn, step, since}
-use Rattle.timing.specs.Timers.{Timer, peer, Used, Sets, Unset}
-use Rattle.timing.specs.Time.{Beat, sends, quiet, Told, told, Time}
-use Rattle.timing.specs.Wrong.{early, OutOfTime}
+use Rattle.timing.specs.Runs.{Fits, ticksIn}
+use Rattle.timing.specs.Time.{Beat, sends, quiet, Time}
+use Rattle.timing.specs.Wrong.{sooner, early, OutOfTime}
 use Rattle.timing.proofs.Steps.{by-paper}
-use Rattle.timing.proofs.Timely.{frames-set}
 
--- level 4, MEP ID 9, period code 1 (2 ticks, hold time 7), one peer
+-- level 4, MEP ID 9, period code 1 (2 ticks), one peer
 setting : Settings
 setting = record {
   level = 4;
@@ -48,19 +46,27 @@ setting = record {
   ids = 7 ∷ 0 ∷ 0 ∷ 0 ∷ 0 ∷ 0 ∷ 0 ∷ 0 ∷ [];
 }
 
-good : Valid setting
+is-valid : valid setting ≡ true
 unfolding setting valid peersGood every everyPair distinct
-good = valid-is .valid-is setting .0 refl
+is-valid = refl
+
+good : Settable setting
+unfolding setting every
+good = record {
+  handed = record {
+    shape = record { own = refl; losspeer = refl; meg = refl; ids = refl };
+    own = octets-of (setting .own) refl;
+    losspeer = octets-of (setting .losspeer) refl;
+    meg = octets-of (setting .meg) refl;
+  };
+  valid = valid-is .valid-is setting .0 is-valid;
+}
 
 abbrev room : List ℕ
 room = replicate 89 0
 
 abbrev once : Call
 once = call.tick room
-
--- the peer's hold time of ticks
-seven : List Call
-seven = once ∷ once ∷ once ∷ once ∷ once ∷ once ∷ once ∷ []
 
 -- ── what an answer shows ──
 
@@ -81,49 +87,33 @@ unfolding isSent
 sent-then (sends p) e = p
 sent-then (quiet n) e = absurd (false≢true e)
 
--- the first peer's loss of continuity
-lostIn : Answer → ℕ
-lostIn (refused n) = 2
-lostIn (call.dropped n) = 2
-lostIn call.passed = 2
-lostIn call.taken = 2
-lostIn (written n) = 2
-lostIn (call.loss n f) = 2
-lostIn (call.delay d) = 2
-lostIn (call.delays d f n) = 2
-lostIn done = 2
-lostIn (call.standing r) = getD (r .lost) 0 0
+then-sent : {P : Type 0} {r : Answer} → Beat P r → P → isSent r ≡ true
+unfolding isSent
+then-sent (sends p) q = refl
+then-sent (quiet n) q = absurd (n q)
 
-flag-on : {P : Type 0} {n : ℕ} → Flag P n → P → n ≡ 1
-flag-on (on p) q = refl
-flag-on (off n) q = absurd (n q)
-
-flag-off : {P : Type 0} {n : ℕ} → Flag P n → (P → ⊥) → n ≡ 0
-flag-off (on p) q = absurd (q p)
-flag-off (off n) q = refl
-
-told-on : {P : Type 0} {r : Answer} → Told (peer 0) P r → P → lostIn r ≡ 1
-unfolding lostIn
-told-on (told r f) p = flag-on f p
-
-told-off : {P : Type 0} {r : Answer} → Told (peer 0) P r → (P → ⊥) → lostIn r ≡ 0
-unfolding lostIn
-told-off (told r f) p = flag-off f p
+-- the first tick is no period's last
+odd : 2 ∣ 1 → ⊥
+odd d =
+    let e : 1 % 2 ≡ 0 = mod-eq-zero-of-dvd 2 d in
+    absurd (omega (arith, e))
 
 -- ── a tick early: the setting, and one tick ──
 
--- what it starts with
-abbrev short : State
-short = put next (startOf setting .next - 1) (startOf setting)
+-- what the setting leaves
+abbrev begun : Box → State
+begun B = B zeroState (call.new-setting setting) .state
 
-begins-short : early zeroState (call.new-setting setting) .state ≡ short
-begins-short =
-    ap (λ (o : Outcome). put next (o .state .next - 1) (o .state))
-    (ours-follows .box .follows zeroState (call.new-setting setting) _ tt (said.by-call (calling.setting-starts setting (startOf setting) good (fresh-own setting))))
+-- and of this box
+abbrev short : State
+short = sooner (startOf setting)
+
+begins-short : begun early ≡ short
+begins-short = ap (λ (b : Bool). cond b (call.hands-out done short short) (ours zeroState (call.new-setting setting)) .state) is-valid
 
 short-well : WellFormed short
 unfolding setting ticksOf
-short-well = put-well (startOf setting) next _ (record { own = λ h. absurd (omega arith); alarm = λ h k. absurd (omega arith); some = λ e. omega arith; next = λ e. omega arith }) (starts .well setting good)
+short-well = put-well (startOf setting) next _ (record { own = λ h. absurd (omega arith); alarm = λ h k. absurd (omega arith); some = λ e. omega arith; next = λ e. omega arith }) (starts .well setting (good .valid))
 
 sends-line : {b : List ℕ} {o : Outcome} → 89 ≤ length b → Said short (call.tick b) o → isSent (o .answer) ≡ true
 unfolding isSent setting ticksOf
@@ -136,44 +126,45 @@ sends-short : isSent (ours short once .answer) ≡ true
 sends-short = by-paper (ours-follows .box) short once tt (λ o. isSent (o .answer) ≡ true) (λ o p. sends-line (omega arith) p)
 
 a-tick-early : Time early → ⊥
-unfolding after Each ticksIn setting ticksOf
+unfolding after Fits ticksIn setting ticksOf
 a-tick-early T =
-    let b : Beat (2 ∣ 1) (early (early zeroState (call.new-setting setting) .state) once .answer) = T .beats zeroState setting [] room good tt (omega arith) in
+    let b : Beat (2 ∣ 1) (early (begun early) once .answer) = T .beats zeroState setting [] room good tt (λ d. omega arith) in
     let c : Beat (2 ∣ 1) (early short once .answer) = subst (λ (z : State). Beat (2 ∣ 1) (early z once .answer)) begins-short b in
-    let d : 2 ∣ 1 = sent-then c sends-short in
-    let e : 1 % 2 ≡ 0 = mod-eq-zero-of-dvd 2 d in
-    absurd (omega arith)
+    odd (sent-then c sends-short)
 
--- ── refuses ticks: the state that the setting starts with, and one tick ──
+-- ── refuses ticks, or those without room: the state that the setting starts with, two ticks before its CCM, and one tick ──
 
 refuses-ticks : (B : Box) → ((s : State) (b : List ℕ) → (n : ℕ) × (B s (call.tick b) .answer ≡ refused n)) → Time B → ⊥
-refuses-ticks B all T = T .takes (startOf setting) room (all (startOf setting) room .0) (starts .well setting good) (omega arith) (all (startOf setting) room .1)
+refuses-ticks B all T =
+    let r = all (startOf setting) room in
+    T .takes (startOf setting) room (r .0) (starts .well setting (good .valid)) (λ e. omega arith) (r .1)
 
--- ── touches nothing: the setting alone, and with seven ticks after it ──
+no-room : (B : Box) → (n : ℕ) × (B (startOf setting) (call.tick []) .answer ≡ refused n) → Time B → ⊥
+unfolding setting ticksOf
+no-room B r T = T .takes (startOf setting) [] (r .0) (starts .well setting (good .valid)) (λ e. absurd (omega (arith, e))) (r .1)
 
-no-tick : {t : Settings} {x : Timer} {b : List ℕ} {h : ℕ} → Sets t x (call.tick b) h → ⊥
-no-tick p = let e : _≡_ {A = ℕ} 0 1 = frames-set 1 p in omega (arith, e)
+-- ── touches nothing: the two ticks after the setting meet the same state, and only the second sends ──
 
-same-after : (B : Box) → ((s : State) (c : Call) → B s c .state ≡ s) → (cs : List Call) (s : State) → after (step B) s cs ≡ s
-unfolding after
-same-after B all [] s = refl
-same-after B all (c ∷ cs) s = same-after B all cs (B s c .state) ∙ all s c
+no-setting : (b : List ℕ) → NoSetting (call.tick b)
+unfolding ticksIn
+no-setting b t e =
+    let n : _≡_ {A = ℕ} 1 0 = ap (λ (c : Call). ticksIn (c ∷ [])) e in
+    omega (arith, n)
 
-touches-nothing : (B : Box) → ((s : State) (c : Call) → B s c .state ≡ s) → Time B → ⊥
-unfolding Each ticksIn setting holdOf seven
-touches-nothing B all T =
-    let z : State = zeroState in
-    let same : (cs : List Call) → since B z setting cs ≡ z = λ cs. same-after B all cs (B z (call.new-setting setting) .state) ∙ all z (call.new-setting setting) in
-    let u : Used setting (peer 0) = (omega arith, omega arith) in
-    let n : Unset setting (peer 0) once = λ h p. no-tick p in
-    let f : 89 ≤ length room = omega arith in
-    let a : lostIn (B (since B z setting []) call.conditions .answer) ≡ 0 = told-off (T .never z setting (peer 0) [] good u tt tt) (λ l. omega (arith, l)) in
-    let b : lostIn (B (since B z setting seven) call.conditions .answer) ≡ 1 =
-    told-on (T .never z setting (peer 0) seven good u (f, (f, (f, (f, (f, (f, (f, tt))))))) (n, (n, (n, (n, (n, (n, (n, tt)))))))) (omega arith) in
-    let e : lostIn (B (since B z setting []) call.conditions .answer) ≡ lostIn (B (since B z setting seven) call.conditions .answer)
-    = ap (λ (y : State). lostIn (B y call.conditions .answer)) (same [] ∙ sym (same seven)) in
-    let k : _≡_ {A = ℕ} 0 1 = sym a ∙ e ∙ b in
-    omega (arith, k)
+two-ticks : (B : Box) → B (begun B) once .state ≡ begun B → Time B → ⊥
+unfolding after Fits ticksIn setting ticksOf
+two-ticks B same T =
+    let y : State = begun B in
+    let first : Beat (2 ∣ 1) (B y once .answer) = T .beats zeroState setting [] room good tt (λ d. omega arith) in
+    let second : Beat (2 ∣ 2) (B (B y once .state) once .answer) =
+    T .beats zeroState setting (once ∷ []) room good ((λ d. omega arith), tt) (λ d. omega arith) in
+    let again : Beat (2 ∣ 2) (B y once .answer) = subst (λ (z : State). Beat (2 ∣ 2) (B z once .answer)) same second in
+    odd (sent-then first (then-sent again (dvd-mul-left 2 1)))
 
 pub out-of-time : OutOfTime
-out-of-time = record { a-tick-early = a-tick-early; refuses-ticks = refuses-ticks; touches-nothing = touches-nothing }
+out-of-time = record {
+  a-tick-early = a-tick-early;
+  refuses-ticks = refuses-ticks;
+  wants-room = λ B all T. no-room B (all (startOf setting) [] (omega arith)) T;
+  touches-nothing = λ B all T. two-ticks B (all (begun B) once (no-setting room)) T;
+}

@@ -28,11 +28,8 @@ use Rattle.demands.specs.Handling as handling
 use Rattle.demands.specs.Called as calling
 use Rattle.demands.specs.Said.{Said}
 use Rattle.demands.specs.Ours.{Follows}
-use Rattle.promised.specs.Refusals.{Refusal}
-use Rattle.promised.specs.Refusals as table
 use Rattle.demands.proofs.Every.{every-call}
 use Rattle.promised.proofs.Promised.{promises}
-use Rattle.timing.specs.Runs.{Fits}
 use Rattle.timing.specs.Timers.{Timer, peer, of, Used, asked, Sets, Unset}
 use Rattle.timing.specs.Timers as sets
 use Rattle.timing.specs.Time.{Beat, sends, quiet}
@@ -50,32 +47,24 @@ passing (call.send-LMM b) = other
 passing (call.send-DMM d b) = other
 passing call.conditions = other
 
-pub wire : (c : Call) → Fits c → OnWire c
-wire (call.new-setting t) f = absurd f
-wire (call.frame a) f = f
-wire (call.tick b) f = tt
-wire call.clear f = tt
-wire (call.send-LMM b) f = tt
-wire (call.send-DMM d b) f = f
-wire call.conditions f = tt
+-- what a call of a run is, in the state that it meets: of its width, a tick with room where a CCM is due, a setting that is refused
+abbrev pub Good : State → Call → Type 0
+Good s (call.new-setting t) = OnWire (call.new-setting t) × (Valid t → ⊥)
+Good s (call.frame a) = OnWire (call.frame a)
+Good s (call.tick b) = s .next ≤ 1 → 89 ≤ length b
+Good s call.clear = Unit
+Good s (call.send-LMM b) = Unit
+Good s (call.send-DMM d b) = OnWire (call.send-DMM d b)
+Good s call.conditions = Unit
 
--- no call of a run is refused with 4
-no-4 : {s : State} {c : Call} {n : ℕ} → Refusal s c n → Fits c → n ≡ 4 → ⊥
-no-4 (table.frame-2 a w) f e = omega (arith, e)
-no-4 (table.frame-1 a w l) f e = omega (arith, e)
-no-4 (table.frame-6 a w l g) f e = omega (arith, e)
-no-4 (table.frame-3 a r o q p h) f e = omega (arith, e)
-no-4 (table.frame-5 a l k i) f e = omega (arith, e)
-no-4 (table.tick-2 b w) f e = omega (arith, e)
-no-4 (table.tick-3 b w n h) f e = omega (arith, e)
-no-4 (table.clear-2 w) f e = omega (arith, e)
-no-4 (table.lmm-2 b w) f e = omega (arith, e)
-no-4 (table.lmm-3 b w h) f e = omega (arith, e)
-no-4 (table.dmm-2 d b w) f e = omega (arith, e)
-no-4 (table.dmm-6 d b w g) f e = omega (arith, e)
-no-4 (table.dmm-3 d b w g h) f e = omega (arith, e)
-no-4 (table.setting-4 t w) f e = f
-no-4 (table.conditions-2 w) f e = omega (arith, e)
+wire : (s : State) (c : Call) → Good s c → OnWire c
+wire s (call.new-setting t) f = f .0
+wire s (call.frame a) f = f
+wire s (call.tick b) f = tt
+wire s call.clear f = tt
+wire s (call.send-LMM b) f = tt
+wire s (call.send-DMM d b) f = f
+wire s call.conditions f = tt
 
 -- ── a tick ──
 
@@ -88,7 +77,7 @@ pub record Ticked (t : Settings) (s z : State) (r : Answer) : Type 0 where
   pub answer : Beat (s .next ≤ 1) r
 
 module _ {t : Settings} {s : State} (H : Holds t s) where
-  tick-line : {b : List ℕ} {o : Outcome} → 89 ≤ length b → Said s (call.tick b) o → Ticked t s (o .state) (o .answer)
+  tick-line : {b : List ℕ} {o : Outcome} → Good s (call.tick b) → Said s (call.tick b) o → Ticked t s (o .state) (o .answer)
   tick-line room (said.by-call (calling.tick-2 b n)) = absurd (n (H .well))
   tick-line room (said.by-call (calling.tick-lowers b w h)) = record {
     settings = refl;
@@ -97,7 +86,7 @@ module _ {t : Settings} {s : State} (H : Holds t s) where
     timers = λ x. tick-lowers x (s .next - 1) s;
     answer = quiet (λ (l : s .next ≤ 1). omega (arith, l, h));
   }
-  tick-line room (said.by-call (calling.tick-3 b w e h)) = absurd (omega (arith, room, h))
+  tick-line room (said.by-call (calling.tick-3 b w e h)) = absurd (omega (arith, room (omega (arith, e)), h))
   tick-line room (said.by-call (calling.tick-sends b rdi w e h f)) = record {
     settings = refl;
     slots = length-map (s .timers) (λ (n : ℕ). n - 1);
@@ -116,7 +105,7 @@ module _ {B : Box} (F : Follows B) where
       subst P (sym (F .follows s c (x .0) u (x .1))) (f (x .0) (x .1))
 
   module _ {t : Settings} {s : State} (v : Valid t) (H : Holds t s) where
-    pub ticked : (b : List ℕ) → 89 ≤ length b → Ticked t s (B s (call.tick b) .state) (B s (call.tick b) .answer)
+    pub ticked : (b : List ℕ) → Good s (call.tick b) → Ticked t s (B s (call.tick b) .state) (B s (call.tick b) .answer)
     ticked b room = by-paper s (call.tick b) tt (λ o. Ticked t s (o .state) (o .answer)) (λ o p. tick-line H room p)
 
     -- any other call
@@ -129,8 +118,10 @@ module _ {B : Box} (F : Follows B) where
       pub next : z .next ≡ counted (ticksOf (t .period)) (s .next) (passing c)
       pub timers : (x : Timer) → ((h : ℕ) × Sets t x c h) ⊎ (timerOf x z ≡ moved (timerOf x s) (passing c))
 
-    kept : (c : Call) → Fits c → Kept c (B s c .state)
-    kept (call.new-setting d) f = absurd f
+    kept : (c : Call) → Good s c → Kept c (B s c .state)
+    kept (call.new-setting d) f = let z = promises .kept B F .zeros s d (f .0) (f .1) in
+        let e : B s (call.new-setting d) .state ≡ s = ap (λ (o : Outcome). o .state) (z .2) in
+        record { settings = ap (λ (x : State). x .settings) e; slots = ap (λ (x : State). length (x .timers)) e; next = ap (λ (x : State). x .next) e; timers = λ y. inr (ap (timerOf y) e) }
     kept (call.frame a) f = let x = by-paper s (call.frame a) f (Changed (call.frame a)) (λ o p. frame-line v H p) in
         record { settings = x .settings; slots = x .slots; next = x .next; timers = x .timers }
     kept (call.tick b) f = let x = ticked b f in
@@ -144,21 +135,21 @@ module _ {B : Box} (F : Follows B) where
     kept call.conditions f = let x = by-paper s (call.conditions) tt (Changed call.conditions) (λ o p. conditions-line v H p) in
         record { settings = x .settings; slots = x .slots; next = x .next; timers = x .timers }
 
-    pub stays : (c : Call) → Fits c → Holds t (B s c .state)
+    pub stays : (c : Call) → Good s c → Holds t (B s c .state)
     stays c f = record {
       same = kept c f .settings ∙ H .same;
-      well = promises .kept B F .stays s c (wire c f) (H .well) (λ e. no-4 (promises .kept B F .refuses s c 4 (wire c f) .0 e) f refl);
+      well = promises .kept B F .stays s c (wire s c f) (H .well);
       eight = kept c f .slots ∙ H .eight;
     }
 
-    pub next-moves : (c : Call) → Fits c → B s c .state .next ≡ counted (ticksOf (t .period)) (s .next) (passing c)
+    pub next-moves : (c : Call) → Good s c → B s c .state .next ≡ counted (ticksOf (t .period)) (s .next) (passing c)
     next-moves c f = kept c f .next
 
     -- each timer is set or moves on
-    pub either : (x : Timer) (c : Call) → Fits c → ((h : ℕ) × Sets t x c h) ⊎ (timerOf x (B s c .state) ≡ moved (timerOf x s) (passing c))
+    pub either : (x : Timer) (c : Call) → Good s c → ((h : ℕ) × Sets t x c h) ⊎ (timerOf x (B s c .state) ≡ moved (timerOf x s) (passing c))
     either x c f = kept c f .timers x
 
-    pub moves : (x : Timer) (c : Call) → Fits c → Unset t x c → timerOf x (B s c .state) ≡ moved (timerOf x s) (passing c)
+    pub moves : (x : Timer) (c : Call) → Good s c → Unset t x c → timerOf x (B s c .state) ≡ moved (timerOf x s) (passing c)
     moves x c f n =
         ⊎-elim
         (λ (p : (h : ℕ) × Sets t x c h). absurd (n (p .0) (p .1)))
@@ -176,7 +167,7 @@ module _ {B : Box} (F : Follows B) where
     left : (x : Timer) (c : Call) (o : Outcome) → OnWire c → Said s c o → timerOf x (B s c .state) ≡ timerOf x (o .state)
     left x c o u p = ap (λ (z : Outcome). timerOf x (z .state)) (F .follows s c o u p)
 
-    pub set-to : {x : Timer} {c : Call} {h : ℕ} → Fits c → Used t x → Sets t x c h → timerOf x (B s c .state) ≡ h
+    pub set-to : {x : Timer} {c : Call} {h : ℕ} → Good s c → Used t x → Sets t x c h → timerOf x (B s c .state) ≡ h
     set-to f u (sets.lower-ccm a o e k g) = left (of sets.unexpected-level) _ _ f (said.by-rules-1-to-4 (judging.rule-3-ccm a (oam-moves back (H .well) o) e (rw (H .same) k) (good-moves back g))) ∙ own
     set-to f u (sets.other-meg a k m) = left (of sets.mismerge) _ _ f (said.by-rules-5-to-8 (handling.rule-5-mismerge a (ccm-moves back (H .well) k) (λ e. m (rw (H .same) at e)))) ∙ own
     set-to f u (sets.no-peer a k m n) = left (of sets.unexpected-mep) _ _ f (said.by-rules-5-to-8 (handling.rule-5-mep a (ccm-moves back (H .well) k) (rw (H .same) m) (λ i p. n i (peer-moves (H .same) p)))) ∙ own

@@ -3,14 +3,15 @@ use Prim.Native.Nat.{ℕ}
 use mathlib.Core.Path.{_≡_, refl}
 use mathlib.Core.List.{List}
 use Rattle.settings.specs.Settings.{Settings}
-use Rattle.settings.specs.Valid.{Valid}
 use Rattle.state.specs.State.{State}
 use Rattle.demands.specs.Calls as call
 use Rattle.demands.specs.Calls.{Call, Answer, Box}
 use Rattle.demands.specs.Standing.{Flag, on, off}
-use Rattle.timing.specs.Runs.{Fits, Each, since}
+use Rattle.demands.specs.Started.{Settable}
+use Rattle.timing.specs.Runs.{Fits, since}
 use Rattle.timing.specs.Timers.{Timer, Used}
 use Rattle.timing.specs.Time.{Beat, sends, quiet, Told, told, Time, LastSet, unset, split, Alike, alike, Tight}
+use Rattle.timing.proofs.Runs.{wires}
 use Rattle.timing.proofs.Timely.{timely}
 
 one-beat : {P : Type 0} {r q : Answer} → Beat P r → Beat P q → r ≡ q
@@ -28,13 +29,14 @@ one-flag (off n) (off m) = refl
 one-told : {x : Timer} {P : Type 0} {r q : Answer} → Told x P r → Told x P q → Alike x r q
 one-told (told r f) (told q g) = alike r q (one-flag f g)
 
-module _ {B C : Box} (T : Time B) (U : Time C) (s z : State) (t : Settings) (x : Timer) (v : Valid t) (u : Used t x) where
-  told-alike : {cs : List Call} → LastSet t x cs → Each Fits cs → Alike x (B (since B s t cs) call.conditions .answer) (C (since C z t cs) call.conditions .answer)
-  told-alike (unset cs n) f = one-told (T .never s t x cs v u f n) (U .never z t x cs v u f n)
-  told-alike (split before c h cs p n) f = one-told (T .last s t x before c h cs v u f p n) (U .last z t x before c h cs v u f p n)
+module _ {B C : Box} (T : Time B) (U : Time C) (s z : State) (t : Settings) (x : Timer) (g : Settable t) (u : Used t x) where
+  told-alike : {cs : List Call} → LastSet t x cs → Fits t 0 cs
+      → Alike x (B (since B s t cs) call.conditions .answer) (C (since C z t cs) call.conditions .answer)
+  told-alike (unset cs n) f = one-told (T .never s t x cs g f u n) (U .never z t x cs g f u n)
+  told-alike (split before c h cs p n) f = one-told (T .last s t x before c h cs g f u p n) (U .last z t x before c h cs g f u p n)
 
 pub tight : Tight
 tight = record {
-  ticks = λ B C T U s z t cs b v f room. one-beat (T .beats s t cs b v f room) (U .beats z t cs b v f room);
-  told = λ B C T U s z t x cs v u f. told-alike T U s z t x v u (timely .all t x cs v u f) f;
+  ticks = λ B C T U s z t cs b g f room. one-beat (T .beats s t cs b g f room) (U .beats z t cs b g f room);
+  told = λ B C T U s z t x cs g f u. told-alike T U s z t x g u (timely .all t x cs (g .valid) (wires t 0 cs f) u) f;
 }

@@ -1,11 +1,11 @@
 -- The statement of specs/Time.antt: whether a call sets a timer can always be told, so that no run is left out. Assumes nothing.
 use Prim.Native.Nat.{ℕ, _-_, _≤_}
 use mathlib.Core.Path.{_≡_, refl, sym, ap, _∙_}
+use mathlib.Core.Bool.{Bool, true, false, true≢false}
 use mathlib.Core.List.{List, [], _∷_}
 use mathlib.Core.Logic.{⊎-elim, _⊎_, inl, inr}
 use native.Mathlib.Omega.{arith}
 use lib.ListN.{replicate}
-use Rattle.clock.specs.Timer.{moved}
 use Rattle.period.specs.Periods.{holdOf}
 use Rattle.period.proofs.Laws.{period-laws}
 use Rattle.settings.specs.Settings.{Settings}
@@ -13,18 +13,18 @@ use Rattle.settings.specs.Valid.{Valid}
 use Rattle.state.specs.State.{State}
 use Rattle.start.specs.Start.{startOf}
 use Rattle.demands.specs.Calls as call
-use Rattle.demands.specs.Calls.{Call}
+use Rattle.demands.specs.Calls.{Arrival, Call, OnWire}
 use Rattle.demands.specs.Cases.{OneOf}
 use Rattle.demands.specs.Ours.{ours}
 use Rattle.demands.proofs.Follows.{ours-follows}
 use Rattle.demands.proofs.Rows.{first, none}
-use Rattle.timing.specs.Runs.{Fits, Each}
+use Rattle.timing.specs.Runs.{Each}
 use Rattle.timing.specs.Timers.{Timer, Used, atStart, Sets, Unset}
 use Rattle.timing.specs.Timers as sets
 use Rattle.timing.specs.Time.{LastSet, unset, split, Timely}
 use Rattle.timing.proofs.Timers.{timerOf}
 use Rattle.timing.proofs.Lines.{Holds}
-use Rattle.timing.proofs.Steps.{passing, ticked, stays, either, set-to}
+use Rattle.timing.proofs.Steps.{ticked, stays, either, set-to}
 use Rattle.timing.proofs.Meets.{at-start, start-timer, in-time}
 
 -- a period's hold time is some ticks
@@ -49,14 +49,27 @@ apart {t} v (sets.alarm a l q e o) z = omega (arith, z, alarm-hold _ o)
 apart {t} v (sets.locked a l q e o) z = omega (arith, z, alarm-hold _ o)
 
 -- only a frame sets a timer
-pub frames-set : {t : Settings} {x : Timer} {c : Call} {h : ℕ} (n : ℕ) → Sets t x c h → moved n (passing c) ≡ n
-frames-set n (sets.lower-ccm a o e k g) = refl
-frames-set n (sets.other-meg a k m) = refl
-frames-set n (sets.no-peer a k m i) = refl
-frames-set n (sets.from-peer a k p) = refl
-frames-set n (sets.other-period a k p i) = refl
-frames-set n (sets.alarm a l q e o) = refl
-frames-set n (sets.locked a l q e o) = refl
+isFrame : Call → Bool
+isFrame (call.new-setting t) = false
+isFrame (call.frame a) = true
+isFrame (call.tick b) = false
+isFrame call.clear = false
+isFrame (call.send-LMM b) = false
+isFrame (call.send-DMM d b) = false
+isFrame call.conditions = false
+
+only-frames : {t : Settings} {x : Timer} {c : Call} {h : ℕ} → Sets t x c h → isFrame c ≡ true
+unfolding isFrame
+only-frames (sets.lower-ccm a o e k g) = refl
+only-frames (sets.other-meg a k m) = refl
+only-frames (sets.no-peer a k m n) = refl
+only-frames (sets.from-peer a k p) = refl
+only-frames (sets.other-period a k p n) = refl
+only-frames (sets.alarm a l q e o) = refl
+only-frames (sets.locked a l q e o) = refl
+
+no-frame : {t : Settings} {x : Timer} {c : Call} → isFrame c ≡ false → Unset t x c
+no-frame e h p = true≢false (sym (only-frames p) ∙ e)
 
 module _ (t : Settings) (x : Timer) (v : Valid t) (u : Used t x) where
   -- the state after a first tick
@@ -67,21 +80,32 @@ module _ (t : Settings) (x : Timer) (v : Valid t) (u : Used t x) where
   once = ours (startOf t) (call.tick room) .state
 
   holds-once : Holds t once
-  holds-once = stays (ours-follows .box) v (at-start (ours-follows .box) v) (call.tick room) (omega arith)
+  holds-once = stays (ours-follows .box) v (at-start (ours-follows .box) v) (call.tick room) (λ l. omega arith)
 
   timer-once : timerOf x once ≡ atStart t x - 1
   timer-once =
-      ticked (ours-follows .box) v (at-start (ours-follows .box) v) room (omega arith) .timers x ∙ ap (λ (n : ℕ). n - 1) (start-timer (ours-follows .box) v x u)
+      ticked (ours-follows .box) v (at-start (ours-follows .box) v) room (λ l. omega arith) .timers x ∙ ap (λ (n : ℕ). n - 1) (start-timer (ours-follows .box) v x u)
 
-  decides : (c : Call) → Fits c → ((h : ℕ) × Sets t x c h) ⊎ Unset t x c
-  decides c f =
+  -- by what our box does to the timer
+  by-frame : (a : Arrival) → OnWire (call.frame a) → ((h : ℕ) × Sets t x (call.frame a) h) ⊎ Unset t x (call.frame a)
+  by-frame a f =
       ⊎-elim
-      (λ (p : (h : ℕ) × Sets t x c h). inl p)
-      (λ (p : timerOf x (ours once c .state) ≡ moved (timerOf x once) (passing c)).
-      inr (λ h q. apart v q (sym (set-to (ours-follows .box) v holds-once f u q) ∙ p ∙ frames-set _ q ∙ timer-once)))
-      (either (ours-follows .box) v holds-once x c f)
+      (λ (p : (h : ℕ) × Sets t x (call.frame a) h). inl p)
+      (λ (p : timerOf x (ours once (call.frame a) .state) ≡ timerOf x once).
+      inr (λ h q. apart v q (sym (set-to (ours-follows .box) v holds-once f u q) ∙ p ∙ timer-once)))
+      (either (ours-follows .box) v holds-once x (call.frame a) f)
 
-  add : (c : Call) (cs : List Call) → Fits c → LastSet t x cs → LastSet t x (c ∷ cs)
+  decides : (c : Call) → OnWire c → ((h : ℕ) × Sets t x c h) ⊎ Unset t x c
+  unfolding isFrame
+  decides (call.new-setting d) f = inr (no-frame refl)
+  decides (call.frame a) f = by-frame a f
+  decides (call.tick b) f = inr (no-frame refl)
+  decides call.clear f = inr (no-frame refl)
+  decides (call.send-LMM b) f = inr (no-frame refl)
+  decides (call.send-DMM d b) f = inr (no-frame refl)
+  decides call.conditions f = inr (no-frame refl)
+
+  add : (c : Call) (cs : List Call) → OnWire c → LastSet t x cs → LastSet t x (c ∷ cs)
   unfolding Each
   add c cs f (unset ds n) =
       ⊎-elim
@@ -90,10 +114,10 @@ module _ (t : Settings) (x : Timer) (v : Valid t) (u : Used t x) where
       (decides c f)
   add c cs f (split before d h ds p n) = split (c ∷ before) d h ds p n
 
-  last-set : (cs : List Call) → Each Fits cs → LastSet t x cs
+  last-set : (cs : List Call) → Each OnWire cs → LastSet t x cs
   unfolding Each
   last-set [] f = unset [] tt
   last-set (c ∷ cs) f = add c cs (f .0) (last-set cs (f .1))
 
 pub timely : Timely
-timely = record { every = in-time; our-box = in-time ours (ours-follows .box); all = λ t x cs v u f. last-set t x v u cs f }
+timely = record { every = in-time; our-box = in-time ours (ours-follows .box); all = λ t x cs v f u. last-set t x v u cs f }

@@ -1,21 +1,33 @@
 -- Runs of calls since a setting. Definitions only.
-use Prim.Native.Nat.{ℕ, suc, _≤_}
+use Prim.Native.Nat.{ℕ, suc, _≤_, _∣_}
 use mathlib.Core.List.{List, [], _∷_}
 use lib.ListN.{length}
 use Rattle.clock.specs.Run.{after}
+use Rattle.period.specs.Periods.{ticksOf}
 use Rattle.settings.specs.Settings.{Settings}
+use Rattle.settings.specs.Valid.{Valid}
 use Rattle.state.specs.State.{State}
 use Rattle.demands.specs.Calls.{Call, new-setting, frame, tick, clear, send-LMM, send-DMM, conditions, OnWire, Box}
 
--- a call of a run: any but a new setting; a tick has room for a CCM
-abbrev pub Fits : Call → Type 0
-Fits (new-setting t) = ⊥
-Fits (frame a) = OnWire (frame a)
-Fits (tick b) = 89 ≤ length b
-Fits clear = Unit
-Fits (send-LMM b) = Unit
-Fits (send-DMM t b) = OnWire (send-DMM t b)
-Fits conditions = Unit
+-- tick number k since the setting is the last of a period, and sends a CCM ("Frames, rule by rule", last paragraph)
+abbrev pub Due : Settings → ℕ → Type 0
+Due t k = ticksOf (t .period) ∣ k
+
+-- so it needs room for one; any other tick needs none
+abbrev pub Room : Settings → ℕ → List ℕ → Type 0
+Room t k b = Due t k → 89 ≤ length b
+
+-- a run that begins k ticks after the setting t: any calls, each of the width in which it is handed over, each tick with the room that it
+-- needs, and every further setting one that is refused
+unfoldable pub Fits : Settings → ℕ → List Call → Type 0
+Fits t k [] = Unit {0}
+Fits t k (new-setting u ∷ cs) = OnWire (new-setting u) × (Valid u → ⊥) × Fits t k cs
+Fits t k (frame a ∷ cs) = OnWire (frame a) × Fits t k cs
+Fits t k (tick b ∷ cs) = Room t (suc k) b × Fits t (suc k) cs
+Fits t k (clear ∷ cs) = Fits t k cs
+Fits t k (send-LMM b ∷ cs) = Fits t k cs
+Fits t k (send-DMM d b ∷ cs) = OnWire (send-DMM d b) × Fits t k cs
+Fits t k (conditions ∷ cs) = Fits t k cs
 
 -- each call of a run is so
 unfoldable pub Each : (Call → Type 0) → List Call → Type 0

@@ -1,18 +1,18 @@
 -- Time, of any box: what its ticks and its conditions answer over runs of any calls since a setting. The paper, "Frames, rule by rule", last
 -- paragraph, and "Numbers" for periods and hold times. Only answers are read. Definitions and the statements only.
-use Prim.Native.Nat.{ℕ, suc, _≤_, _<_, _∣_}
+use Prim.Native.Nat.{ℕ, suc, _≤_, _<_}
 use mathlib.Core.Path.{_≡_}
 use mathlib.Core.List.{List, _∷_, _++_}
 use lib.ListN.{length, getD}
-use Rattle.period.specs.Periods.{ticksOf}
 use Rattle.settings.specs.Settings.{Settings}
 use Rattle.settings.specs.Valid.{Valid}
 use Rattle.state.specs.State.{State}
 use Rattle.state.specs.WellFormed.{WellFormed}
-use Rattle.demands.specs.Calls.{Call, tick, conditions, Answer, refused, written, done, standing, Raised, Box}
+use Rattle.demands.specs.Calls.{Call, tick, conditions, Answer, refused, written, done, standing, Raised, OnWire, Box}
 use Rattle.demands.specs.Standing.{Flag}
+use Rattle.demands.specs.Started.{Settable}
 use Rattle.demands.specs.Ours.{ours, Follows}
-use Rattle.timing.specs.Runs.{Fits, Each, ticksIn, since}
+use Rattle.timing.specs.Runs.{Due, Room, Fits, Each, ticksIn, since}
 use Rattle.timing.specs.Timers.{mismerge, unexpected-level, unexpected-mep, unexpected-period, ais, lck, Timer, peer, of, Used, atStart, Sets, Unset}
 
 -- ── answers ──
@@ -44,17 +44,17 @@ Stands (of c) h n = n < h
 -- ── what is said of a box ──
 
 pub record Time (B : Box) : Type 0 where
-  -- a tick with room for a CCM is not refused, on any well-formed state
-  pub takes : (s : State) (b : List ℕ) (n : ℕ) → WellFormed s → 89 ≤ length b → B s (tick b) .answer ≡ refused n → ⊥
-  -- the tick after a run, number k since the setting, sends a CCM exactly when the period divides k
-  pub beats : (s : State) (t : Settings) (cs : List Call) (b : List ℕ) → Valid t → Each Fits cs → 89 ≤ length b
-      → Beat (ticksOf (t .period) ∣ suc (ticksIn cs)) (B (since B s t cs) (tick b) .answer)
+  -- on any well-formed state a tick is not refused, with room for a CCM where it is a period's last
+  pub takes : (s : State) (b : List ℕ) (n : ℕ) → WellFormed s → (s .next ≡ 1 → 89 ≤ length b) → B s (tick b) .answer ≡ refused n → ⊥
+  -- the tick after a run, number k since the setting, sends a CCM exactly when the period divides k, and needs room only then
+  pub beats : (s : State) (t : Settings) (cs : List Call) (b : List ℕ) → Settable t → Fits t 0 cs → Room t (suc (ticksIn cs)) b
+      → Beat (Due t (suc (ticksIn cs))) (B (since B s t cs) (tick b) .answer)
   -- a timer that no call has set since the setting
-  pub never : (s : State) (t : Settings) (x : Timer) (cs : List Call) → Valid t → Used t x → Each Fits cs → Each (Unset t x) cs
+  pub never : (s : State) (t : Settings) (x : Timer) (cs : List Call) → Settable t → Fits t 0 cs → Used t x → Each (Unset t x) cs
       → Told x (Stands x (atStart t x) (ticksIn cs)) (B (since B s t cs) conditions .answer)
   -- a timer that the call c was the last to set, to h
-  pub last : (s : State) (t : Settings) (x : Timer) (before : List Call) (c : Call) (h : ℕ) (cs : List Call) → Valid t → Used t x
-      → Each Fits (before ++ (c ∷ cs)) → Sets t x c h → Each (Unset t x) cs
+  pub last : (s : State) (t : Settings) (x : Timer) (before : List Call) (c : Call) (h : ℕ) (cs : List Call)
+      → Settable t → Fits t 0 (before ++ (c ∷ cs)) → Used t x → Sets t x c h → Each (Unset t x) cs
       → Told x (Stands x h (ticksIn cs)) (B (since B s t (before ++ (c ∷ cs))) conditions .answer)
 
 -- a run sets a timer never, or there is a last call that does
@@ -66,8 +66,8 @@ pub record Timely : Type 0 where
   -- every box that follows the paper is in time, ours too
   pub every : (B : Box) → Follows B → Time B
   pub our-box : Time ours
-  -- `never` and `last` leave no run out
-  pub all : (t : Settings) (x : Timer) (cs : List Call) → Valid t → Used t x → Each Fits cs → LastSet t x cs
+  -- `never` and `last` leave no run out: whether a call sets a timer can always be told
+  pub all : (t : Settings) (x : Timer) (cs : List Call) → Valid t → Each OnWire cs → Used t x → LastSet t x cs
 
 -- both tell conditions, and the same of this timer's
 pub data Alike (x : Timer) : Answer → Answer → Type 0 where
@@ -75,7 +75,9 @@ pub data Alike (x : Timer) : Answer → Answer → Type 0 where
 
 -- no choice is left: over the same calls since the same setting, from whatever state before, two boxes in time answer alike
 pub record Tight : Type 0 where
-  pub ticks : (B C : Box) → Time B → Time C → (s z : State) (t : Settings) (cs : List Call) (b : List ℕ) → Valid t → Each Fits cs → 89 ≤ length b
+  pub ticks : (B C : Box) → Time B → Time C → (s z : State) (t : Settings) (cs : List Call) (b : List ℕ)
+      → Settable t → Fits t 0 cs → Room t (suc (ticksIn cs)) b
       → B (since B s t cs) (tick b) .answer ≡ C (since C z t cs) (tick b) .answer
-  pub told : (B C : Box) → Time B → Time C → (s z : State) (t : Settings) (x : Timer) (cs : List Call) → Valid t → Used t x → Each Fits cs
+  pub told : (B C : Box) → Time B → Time C → (s z : State) (t : Settings) (x : Timer) (cs : List Call)
+      → Settable t → Fits t 0 cs → Used t x
       → Alike x (B (since B s t cs) conditions .answer) (C (since C z t cs) conditions .answer)

@@ -1,19 +1,25 @@
 -- Boxes that are out of time. Definitions and the statement only.
-use Prim.Native.Nat.{ℕ, _-_}
+use Prim.Native.Nat.{ℕ, _-_, _<_}
 use mathlib.Core.Path.{_≡_}
+use mathlib.Core.Bool.{cond}
 use mathlib.Core.List.{List}
+use lib.ListN.{length}
+use Rattle.settings.specs.Valid.{valid}
 use Rattle.state.specs.State.{State}
 use Rattle.state.specs.Changed.{put, next}
-use Rattle.demands.specs.Calls.{Call, new-setting, frame, tick, clear, send-LMM, send-DMM, conditions, refused, Outcome, leaves, Box}
+use Rattle.start.specs.Start.{startOf}
+use Rattle.demands.specs.Calls.{Call, new-setting, frame, tick, clear, send-LMM, send-DMM, conditions, NoSetting}
+use Rattle.demands.specs.Calls.{refused, done, hands-out, Box}
 use Rattle.demands.specs.Ours.{ours}
 use Rattle.timing.specs.Time.{Time}
 
--- ours, but a setting has a tick less than a period to run
-abbrev pub sooner : Outcome → Outcome
-sooner o = leaves (o .answer) (put next (o .state .next - 1) (o .state)) (o .buffer)
+-- a state with a tick less to run to its next CCM
+abbrev pub sooner : State → State
+sooner s = put next (s .next - 1) s
 
+-- ours, but a setting that is taken starts with a tick less than a period to run: that state it leaves, and that it hands out
 abbrev pub early : Box
-early s (new-setting t) = sooner (ours s (new-setting t))
+early s (new-setting t) = cond (valid t) (hands-out done (sooner (startOf t)) (sooner (startOf t))) (ours s (new-setting t))
 early s (frame a) = ours s (frame a)
 early s (tick b) = ours s (tick b)
 early s clear = ours s clear
@@ -26,5 +32,7 @@ pub record OutOfTime : Type 0 where
   pub a-tick-early : Time early → ⊥
   -- one that refuses every tick, whatever else it does
   pub refuses-ticks : (B : Box) → ((s : State) (b : List ℕ) → (n : ℕ) × (B s (tick b) .answer ≡ refused n)) → Time B → ⊥
-  -- one that touches nothing, whatever it answers
-  pub touches-nothing : (B : Box) → ((s : State) (c : Call) → B s c .state ≡ s) → Time B → ⊥
+  -- one that refuses every tick without room for a CCM, also where none is due
+  pub wants-room : (B : Box) → ((s : State) (b : List ℕ) → length b < 89 → (n : ℕ) × (B s (tick b) .answer ≡ refused n)) → Time B → ⊥
+  -- one that touches nothing at any call but a new setting, whatever it answers
+  pub touches-nothing : (B : Box) → ((s : State) (c : Call) → NoSetting c → B s c .state ≡ s) → Time B → ⊥

@@ -32,7 +32,7 @@ use Rattle.state.proofs.Rules.{well-formed-is}
 use Rattle.start.specs.Start.{startOf}
 use Rattle.start.proofs.Starts.{starts}
 use Rattle.demands.specs.Calls as call
-use Rattle.demands.specs.Calls.{active, Arrival, Call, frame, passed, Outcome, leaves, OnWire}
+use Rattle.demands.specs.Calls.{active, Arrival, Call, frame, passed, Outcome, leaves, OnWire, NoSetting}
 use Rattle.demands.specs.Drops as drops
 use Rattle.demands.specs.Drops.{D6}
 use Rattle.demands.specs.Said as said
@@ -45,7 +45,7 @@ use Rattle.demands.specs.Ours.{ours}
 use Rattle.demands.proofs.Rows.{request-yes}
 use Rattle.demands.proofs.Follows.{ours-follows}
 use Rattle.promised.proofs.Kept.{put-well, first-well, session-put}
-use Rattle.lossruns.specs.Runs.{answers, Each, NoSetting, NoClear, CountedFrom, Event, reply, received, Is, is-reply, is-received, Events, none, next, receivedIn}
+use Rattle.lossruns.specs.Runs.{answers, Each, NoClear, CountedFrom, Event, reply, received, Is, is-reply, is-received, Events, none, next, receivedIn}
 use Rattle.lossruns.specs.Replies.{repliesIn, toReplies, Seen, refused, loss, silence, seen, SinceClear}
 use Rattle.lossruns.specs.Demand3.{Demand3}
 use Rattle.wrongboxes.specs.Wrong.{repeated, repeats, invents, timed, halved, halves, signed-off, signless, lingers, ShutOut}

@@ -27,6 +27,10 @@ instead f o (delays t x n) = o
 instead f o done = o
 instead f o (standing r) = o
 
+-- an outcome with another state
+abbrev with-state : State → Outcome → Outcome
+with-state s o = record { answer = o .answer; state = s; buffer = o .buffer; out = o .out }
+
 -- handles the first loss reply; to every later one it says and keeps what it said and kept then
 abbrev pub repeated : State → Outcome → Outcome
 repeated s o = cond (eqb (s .session .kept) 0) o (instead (λ n f. leaves (loss (pos 0) (pos 0)) s (o .buffer)) o (o .answer))
@@ -39,7 +43,7 @@ abbrev numbered : ℕ → LossSession → LossSession
 numbered k x = record { kept = x .kept; intervals = k; last = x .last; near = x .near; far = x .far }
 
 abbrev pub invents : Box
-invents s c = leaves (ours s c .answer) (withSession (numbered 7 (ours s c .state .session)) (ours s c .state)) (ours s c .buffer)
+invents s c = with-state (withSession (numbered 7 (ours s c .state .session)) (ours s c .state)) (ours s c)
 
 -- counts every second frame that is received: a ninth timer stands while one is not counted
 abbrev pub timed : List ℕ → State → State
@@ -60,8 +64,8 @@ timed timers s = record {
 }
 
 abbrev second : State → Outcome → Bool → Outcome
-second s o true = leaves (o .answer) (timed (s .timers ++ (0 ∷ [])) s) (o .buffer)
-second s o false = leaves (o .answer) (timed (take slots (o .state .timers)) (o .state)) (o .buffer)
+second s o true = with-state (timed (s .timers ++ (0 ∷ [])) s) o
+second s o false = with-state (timed (take slots (o .state .timers)) (o .state)) o
 
 abbrev pub halved : State → Outcome → Outcome
 halved s o = cond (eqb (o .state .received) (s .received)) o (second s o (eqb (length (s .timers)) slots))

@@ -14,7 +14,7 @@ use Rattle.card.specs.Lent.{Lent, LentRun, none, more, Lends}
 one : (s : LossSession) (r : Readings) (t t′ : LossTold) (e e′ : LossSession) → Lent s r t e → Lent s r t′ e′ → (t ≡ t′) × (e ≡ e′)
 one s r t t′ e e′ p q = (p .0 ∙ sym (q .0), p .1 ∙ sym (q .1))
 
-runs : {s e : LossSession} {rs : List Readings} {ts : List LossTold} → LentRun s rs ts e
+pub runs : {s e : LossSession} {rs : List Readings} {ts : List LossTold} → LentRun Lent s rs ts e
     → (ts ≡ map told (answers afterReading s rs)) × (e ≡ leaves afterReading s rs)
 unfolding answers after
 runs (none s) = (refl, refl)

@@ -1,2 +1,4 @@
 pub mod Lends
+pub mod Said
+pub mod Demand3
 pub mod One

@@ -1,1 +1,3 @@
 pub mod Lent
+pub mod Said
+pub mod Demand3

@@ -12,6 +12,7 @@ use Rattle.account.specs.Demand3.{answers}
 use Rattle.delay.specs.Told.{numbersOf}
 use Rattle.edges.specs.Table.{loses, Edges}
 use Rattle.edges.proofs.Offsets.{four-more, one-less}
+use Rattle.edges.proofs.Read.{is-read}
 use Rattle.edges.proofs.Silence.{six, seven}
 use lib.IntN.{pos, negsuc}
 
@@ -23,4 +24,4 @@ still-row still h =
 
 pub edges : Edges
 unfolding answers afterReading choose wellFormed told numbersOf every
-edges = (λ rest. (refl, refl), (λ rest. (refl, refl), (refl, (refl, (refl, (still-row, (six, (seven, (refl, (refl, (refl, (four-more, (one-less, tt)))))))))))))
+edges = (λ rest. (refl, refl), (λ rest. (refl, refl), (refl, (refl, (refl, (still-row, (six, (seven, (refl, (refl, (refl, (four-more, (is-read, (one-less, tt))))))))))))))

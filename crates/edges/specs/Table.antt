@@ -30,7 +30,10 @@ use Rattle.reader.specs.Reader.{answerOf, valueOf}
 use Rattle.reader.specs.Numbers as Reader
 use Rattle.reasons.specs.Told as Reasons
 use Rattle.incoming.specs.Message.{messageOf}
+use Rattle.opcodes.specs.declared.Handler.the-variants.{Continuity}
+use Rattle.kinds.specs.declared.MessageAnswer.the-variants.{Message}
 use Rattle.ccmfields.specs.Ccm.{isCcm, ccmOf, megOf}
+use Rattle.tlvs.specs.Tlvs.{Tlvs}
 
 -- ── the words of the rows ──
 
@@ -93,6 +96,13 @@ fourMore = (addresses fixed extra tlvs : List ℕ) (level first flags : ℕ) →
     → SameMessage (ccmFrame addresses (firstOctet level 1) flags 74 (fixed ++ extra ++ tlvs)) (ccmFrame addresses first flags 70 (fixed ++ tlvs))
     × ReadsFirst flags fixed (ccmFrame addresses (firstOctet level 1) flags 74 (fixed ++ extra ++ tlvs))
 
+-- and it is read as a CCM, where it has a period and its TLVs have their end
+abbrev pub isRead : Type 0
+isRead = (addresses fixed extra tlvs : List ℕ) (level flags : ℕ) (ts : List (ℕ × List ℕ)) → length addresses ≡ 12 → length fixed ≡ 70
+    → length extra ≡ 4 → length tlvs ≤ 1422 → Tlvs tlvs ts → (flags % 8 ≡ 0 → ⊥)
+    → (messageOf (ccmFrame addresses (firstOctet level 1) flags 74 (fixed ++ extra ++ tlvs)) ≡ Message Continuity)
+    × (isCcm (ccmFrame addresses (firstOctet level 1) flags 74 (fixed ++ extra ++ tlvs)) ≡ true)
+
 -- one with offset 69 is D4, whatever else it holds
 abbrev pub oneLess : Type 0
 oneLess = (addresses behind : List ℕ) (first flags kind : ℕ) → length addresses ≡ 12 → length behind ≤ 1496
@@ -114,6 +124,7 @@ table =
     ∷ takes (at 10 0) notGiven notGiven (at 10 1200) (pos 1200) (pos 0) (pos 0)
     ∷ takes (at 10 0) notGiven notGiven (at 9 999999999) (negsuc 0) (pos 0) (pos 0)
     ∷ fourMore
+    ∷ isRead
     ∷ oneLess
     ∷ []
 

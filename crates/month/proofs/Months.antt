@@ -98,14 +98,15 @@ takes-more s r w few = by (known (eqb (s .kept) 0))
 -- what working through some replies gives, where each is taken and leaves the line that the account has
 record Goes (w : Worked) (lines : List LossLine) (n : ℕ) : Type 0 where
   records-are : w .records ≡ recordsOf lines
-  none-refused : w .refusal ≡ 0
+  goes-through : w .halted ≡ 0
   all-taken : w .taken ≡ n
   printed : Prints (recordsOf lines) (textsOf lines)
 
 goes : (ts before : List Counts) → length (before ++ ts) ≤ 1000000001 → Steady (before ++ ts)
     → Goes (worked (reached before) (map shown ts)) (accountLines before ts) (length ts)
 unfolding accountLines joined
-goes [] before few steady = rw (worked-none (reached before)) (record { records-are = refl; none-refused = refl; all-taken = refl; printed = nothing-left })
+goes [] before few steady =
+    rw (worked-none (reached before)) (record { records-are = refl; goes-through = refl; all-taken = refl; printed = nothing-left })
 goes (t ∷ ts) before few steady = by (goes ts (before ++ (t ∷ [])) (rw (append-snoc before t ts) few) (rw (append-snoc before t ts) steady))
   where
     so-far : List Counts
@@ -143,7 +144,7 @@ goes (t ∷ ts) before few steady = by (goes ts (before ++ (t ∷ [])) (rw (appe
         let all : Goes (behind (lineRecord (accountLine (before ++ (t ∷ [])))) 1 (worked (reached (before ++ (t ∷ []))) (map shown ts))) (accountLine (before ++ (t ∷ [])) ∷ rest) (suc (length ts)) =
         record {
           records-are = ap (λ (l : List ℕ). lineRecord (accountLine (before ++ (t ∷ []))) ++ l) (more .records-are);
-          none-refused = more .none-refused;
+          goes-through = more .goes-through;
           all-taken = omega (arith, more .all-taken);
           printed = good-record (accountLine (before ++ (t ∷ []))) (recordsOf rest) (textsOf rest) kept (more .printed);
         } in
@@ -196,7 +197,7 @@ grain-quay = ap (λ (rs : List Readings). sheetOf (recounted (rawReplies rs) .re
 pub months : Months
 months = record {
   raw-back = raw-back;
-  taken = λ ts few steady. (month ts few steady .none-refused, month ts few steady .all-taken);
+  taken = λ ts few steady. (month ts few steady .goes-through, month ts few steady .all-taken);
   written = λ ts few steady. month ts few steady .records-are;
   sheet = sheet;
   full = full;

@@ -11,11 +11,15 @@ use Rattle.whole.proofs.Lists.{part-here}
 use Rattle.octets.specs.Numbers.{littleEndian, number, inOctets}
 use Rattle.octets.proofs.Laws.{length-octets, number-back, number-here}
 use Rattle.session.specs.declared.Readings.{Readings}
-use Rattle.session.specs.Session.{Side, near, far, sentOf, receivedOf}
+use Rattle.session.specs.Session.{Side, readings, near, far, sentOf, receivedOf}
 use Rattle.sheettext.specs.Sheet.{joined}
 use Rattle.account.specs.Demand3.{Counts, shown, Small}
 use Rattle.rawreplies.specs.Replies.{readingsIn, repliesIn, replies}
 use Rattle.month.specs.Month.{rawReply, rawReplies}
+
+-- readings made of their four counts
+made : (r : Readings) {txf rxf txb ours : ℕ} → txf ≡ r .txf → rxf ≡ r .rxf → txb ≡ r .txb → ours ≡ r .ours → readings txf rxf txb ours ≡ r
+made r e1 e2 e3 e4 = rw (e1, e2, e3, e4)
 
 module _ (r : Readings) (rest : List ℕ) where
   abbrev a : List ℕ
@@ -45,7 +49,7 @@ module _ (r : Readings) (rest : List ℕ) where
       let n2 = ap (λ (l : List ℕ). number littleEndian (part 4 4 l)) e2 ∙ number-here littleEndian 4 (r .rxf) a (c ++ d ++ rest) 4 (length-octets littleEndian 4 (r .txf)) (small far .1) in
       let n3 = ap (λ (l : List ℕ). number littleEndian (part 8 4 l)) e3 ∙ number-here littleEndian 4 (r .txb) (a ++ b) (d ++ rest) 8 (simp (length-append, length-octets)) (small near .0) in
       let n4 = ap (λ (l : List ℕ). number littleEndian (part 12 4 l)) e4 ∙ number-here littleEndian 4 (r .ours) (a ++ b ++ c) rest 12 (simp (length-append, length-octets)) (small near .1) in
-      rw (n1, n2, n3, n4)
+      made r n1 n2 n3 n4
 
 raws-long : (rs : List Readings) → length (rawReplies rs) ≡ length rs * 16
 unfolding joined

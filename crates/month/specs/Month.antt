@@ -59,12 +59,12 @@ pub record Months : Type 0 where
   pub raw-back : (rs : List Readings) → Small rs → replies (rawReplies rs) ≡ rs
   -- of true counts that neither fall nor grow by 2^32 between two replies, every reply is taken, and the account's lines are written
   pub taken : (ts : List Counts) → length ts ≤ 1000000001 → Steady ts
-      → (recounted (rawReplies (map shown ts)) .refusal ≡ 0) × (recounted (rawReplies (map shown ts)) .taken ≡ length ts)
+      → (recounted (rawReplies (map shown ts)) .halted ≡ 0) × (recounted (rawReplies (map shown ts)) .taken ≡ length ts)
   pub written : (ts : List Counts) → length ts ≤ 1000000001 → Steady ts → recounted (rawReplies (map shown ts)) .records ≡ recordsOf (accountLines [] ts)
   -- and the sheet of them is the account's sheet
   pub sheet : (ts : List Counts) → length ts ≤ 1000000001 → Steady ts
       → sheetOf (recounted (rawReplies (map shown ts)) .records) ≡ headerText ++ textsOf (accountLines [] ts)
-  -- behind 1,000,000,001 replies the next is refused with 5, and nothing more is written
+  -- behind 1,000,000,001 replies the work halts with 5 at the next, and nothing more is taken or written
   pub full : (rs more : List Readings) (r : Readings) → 1000000001 ≤ length rs
       → worked (leaves afterReading clearedSession rs) (r ∷ more) ≡ stopped 5 (leaves afterReading clearedSession rs)
   -- the grain quay: -1, and not 4,294,967,295

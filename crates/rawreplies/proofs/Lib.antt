@@ -1,3 +1,6 @@
 pub mod Laws
 pub mod Turns
 pub mod Chunks
+pub mod Halts
+pub mod Ends
+pub mod Recounts

@@ -21,17 +21,18 @@ use Rattle.card.specs.Lent.{readingOf}
 use Rattle.lossrecord.specs.Line.{KeepsRules, lineRecord}
 use Rattle.lossrecord.proofs.Laws.{line-long}
 use Rattle.rawreplies.specs.Replies.{readingsIn, repliesIn, replies, lineOf, Worked, stopped, behind, worked}
-use Rattle.rawreplies.specs.Recount.{ended, answered, workedAnswer, recountInto}
+use Rattle.rawreplies.specs.Recount.{ended, answered, refusedWith, workedAnswer, recountInto}
 use Rattle.rawreplies.proofs.Laws.{replies-next, taken-kept, worked-taken, worked-refused, worked-none, behind-both}
 
 -- ── how it ends ──
 
 module _ (s : LossSession) (octets buffer : List ℕ) where
-  pub ends-not-well : wellFormed s ≡ false → ended (answered 2 0 s) buffer ≡ recountInto s octets buffer
+  pub ends-not-well : wellFormed s ≡ false → ended (refusedWith 2 s) buffer ≡ recountInto s octets buffer
   unfolding recountInto choose
   ends-not-well g = rw g
 
-  pub ends-no-room : wellFormed s ≡ true → length buffer / 24 < length octets / 16 → ended (answered 3 0 s) buffer ≡ recountInto s octets buffer
+  pub ends-no-room : wellFormed s ≡ true → length buffer / 24 < length octets / 16
+      → ended (refusedWith 3 s) buffer ≡ recountInto s octets buffer
   unfolding recountInto choose
   ends-no-room g h = rw (g, lt-ltb (length buffer / 24) (length octets / 16) h)
 
@@ -55,7 +56,7 @@ pub record SoFar (start : LossSession) (from before into : List ℕ) (i : ℕ) (
 pub from-here : (w : Worked) → w ≡ behind [] 0 w
 from-here w =
     let same : w .taken ≡ 0 + w .taken = omega arith in
-    ap (λ (n : ℕ). record { records = w .records; refusal = w .refusal; taken = n; session = w .session }) same
+    ap (λ (n : ℕ). record { records = w .records; halted = w .halted; taken = n; session = w .session }) same
 
 pub at-start : (s : LossSession) (from before : List ℕ) → SoFar s from before before 0 s
 at-start s from before =
@@ -78,13 +79,13 @@ module _ {start s : LossSession} {from before into : List ℕ} {i : ℕ} (t : So
   left = drop (i * 16) from
 
   -- nothing is left
-  pub at-end : length from / 16 ≤ i → ended (answered 0 (length from / 16) s) into ≡ recountInto start from before
+  pub at-end : length from / 16 ≤ i → ended (answered 0 0 (length from / 16) s) into ≡ recountInto start from before
   at-end k =
       let none : length from / 16 - i ≡ 0 = omega (arith, k) in
       let all : i + 0 ≡ length from / 16 = omega (arith, k, t .within) in
-      let w : worked start (replies from) ≡ record { records = t .records; refusal = 0; taken = length from / 16; session = s } =
+      let w : worked start (replies from) ≡ record { records = t .records; halted = 0; taken = length from / 16; session = s } =
       t .rest ∙ ap (λ (n : ℕ). behind (t .records) i (worked s (repliesIn n left))) none ∙ ap (behind (t .records) i) (nothing s left) ∙ rw (append-nil (t .records), all) in
-      ends-worked start from before (record { records = t .records; refusal = 0; taken = length from / 16; session = s }) g h w (t .is)
+      ends-worked start from before (record { records = t .records; halted = 0; taken = length from / 16; session = s }) g h w (t .is)
 
   -- one more reply is answered
   module _ (still : i < length from / 16) {a : Answered} (f : a ≡ readingOf s (readingsIn left)) where
@@ -103,15 +104,15 @@ module _ {start s : LossSession} {from before into : List ℕ} {i : ℕ} (t : So
     session-is : a .session ≡ afterReading s r .session
     session-is = ap (λ (x : Answered). x .session) f
 
-    pub turn-stops : (a .told .refusal ≡ 0 → ⊥) → ended (answered (a .told .refusal) i s) into ≡ recountInto start from before
-    turn-stops n =
+    pub turn-halts : (a .told .refusal ≡ 0 → ⊥) → ended (answered 0 (a .told .refusal) i s) into ≡ recountInto start from before
+    turn-halts n =
         let same : i + 0 ≡ i = omega arith in
-        let w : worked start (replies from) ≡ record { records = t .records; refusal = a .told .refusal; taken = i; session = s } =
+        let w : worked start (replies from) ≡ record { records = t .records; halted = a .told .refusal; taken = i; session = s } =
         t .rest
         ∙ ap (λ (rs : List Readings). behind (t .records) i (worked s rs)) next
         ∙ ap (behind (t .records) i) (worked-refused s r others (λ z. n (refusal-is ∙ z)))
         ∙ rw (append-nil (t .records), same, sym refusal-is) in
-        ends-worked start from before (record { records = t .records; refusal = a .told .refusal; taken = i; session = s }) g h w (t .is)
+        ends-worked start from before (record { records = t .records; halted = a .told .refusal; taken = i; session = s }) g h w (t .is)
 
     module _ (z : a .told .refusal ≡ 0) where
       pub turn-kept : KeepsRules (lineOf (a .session))

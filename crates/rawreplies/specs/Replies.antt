@@ -37,22 +37,23 @@ lineOf s = record { near = s .near; far = s .far; intervals = s .intervals }
 
 -- ── worked through ──
 
--- the records written, the refusal that ended it, or 0, the replies taken, and the session then
+-- the records written, why it halted, or 0, the replies taken, and the session then
 pub record Worked : Type 0 where
   pub records : List ℕ
-  pub refusal : ℕ
+  pub halted : ℕ
   pub taken : ℕ
   pub session : LossSession
 
--- stopped at a session: nothing more is taken
+-- nothing more is taken: no reply is left, or the session does not take the next, and then its number for why
 abbrev pub stopped : ℕ → LossSession → Worked
-stopped refusal s = record { records = []; refusal = refusal; taken = 0; session = s }
+stopped halted s = record { records = []; halted = halted; taken = 0; session = s }
 
 -- n replies with their records, and then more
 abbrev pub behind : List ℕ → ℕ → Worked → Worked
-behind records n w = record { records = records ++ w .records; refusal = w .refusal; taken = n + w .taken; session = w .session }
+behind records n w = record { records = records ++ w .records; halted = w .halted; taken = n + w .taken; session = w .session }
 
--- each reply goes to the session that the last one left, and the session's line is written; at a refusal it stops
+-- each reply goes to the session that the last one left, and the session's line is written; where the session does not take it, the work
+-- halts
 unfoldable pub worked : LossSession → List Readings → Worked
 worked s [] = stopped 0 s
 worked s (r ∷ rs) =

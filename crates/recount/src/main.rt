@@ -1,6 +1,7 @@
 // Works a month again: raw loss replies on standard input, four little-endian counts of 32 bits each (TxFCf, RxFCf, TxFCb, our own received count);
-// on standard output a stored loss line after each, for `sheet` to print. A reply that the input cuts short, or that the session refuses, ends it and is told on
-// standard error; the lines before it stand. What is written for a chunk of replies is proved in `replies`.
+// on standard output a stored loss line after each, for `sheet` to print. A reply that the input cuts short, or that the session has no
+// interval left for, ends it and is told on standard error; the lines before it stand. What is written for a chunk of replies is proved in
+// `replies`.
 use libc::STDERR_FILENO;
 use libc::STDIN_FILENO;
 use libc::STDOUT_FILENO;
@@ -38,10 +39,18 @@ fn print(records: &[u8; ROOM], n: usize) -> bool {
     io::write_all(STDOUT_FILENO, &all[0..n * LINE])
 }
 
-// Tells why it ends, if it does; tells whether it goes on.
-fn goes_on(refusal: u32, left: usize) -> bool {
+// Tells why it ends, if it does; tells whether it goes on. The session is well formed and the room is enough, so nothing is ever refused.
+fn goes_on(refusal: u32, halted: u32, left: usize) -> bool {
     if refusal != 0 {
         complain(b"recount: refused ", refusal as u64, b"\n");
+        return false;
+    }
+    if halted != 0 {
+        complain(
+            b"recount: stopped, no interval left for the next reply (",
+            halted as u64,
+            b")\n",
+        );
         return false;
     }
     if left != 0 {
@@ -69,7 +78,7 @@ fn work_chunk(session: LossSession) -> Turn {
     let done = recount(&mut records, &chunk[..got], session);
     let after = done.session;
     let written = print(&records, done.taken);
-    let fine = goes_on(done.refusal, got % REPLY);
+    let fine = goes_on(done.refusal, done.halted, got % REPLY);
     Turn {
         session: after,
         more: written & fine,

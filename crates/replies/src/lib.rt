@@ -52,39 +52,41 @@ fn put_record(into: &mut [u8], at: usize, s: LossSession)
 }
 
 // Where the work stands.
-fn worked_to(refusal: u32, taken: usize, session: LossSession) -> Recounted
-    ensures { λ r. ⌜ r ≡ answered refusal taken session ⌝ }
+fn worked_to(refusal: u32, halted: u32, taken: usize, session: LossSession) -> Recounted
+    ensures { λ r. ⌜ r ≡ answered refusal halted taken session ⌝ }
 {
     Recounted {
         refusal,
+        halted,
         taken,
         session,
     }
 }
 
 // Works through the whole replies of a chunk, from a session on, and writes their records into the front of the buffer. Octets behind the last whole
-// reply are not looked at.
+// reply are not looked at. A refusal touches nothing. Where the session has no interval left for a reply the work halts there, and what
+// went before stands.
 pub fn recount(into: &mut [u8], from: &[u8], session: LossSession) -> Recounted
     ensures { λ r. ⌜ ended r (now (into .exit)) ≡ recountInto session (now (from .entry)) (now (into .entry)) ⌝ }
 {
     let mut s = session;
     if !well_formed(s) {
-        return worked_to(2, 0, s);
+        return worked_to(2, 0, 0, s);
     }
     let count = from.len() / REPLY;
     if into.len() / LINE < count {
-        return worked_to(3, 0, s);
+        return worked_to(3, 0, 0, s);
     }
     let mut i: usize = 0;
     while i < count {
         let next = answer_at(from, i * REPLY, s);
         if next.told.refusal != 0 {
-            return worked_to(next.told.refusal, i, s);
+            return worked_to(0, next.told.refusal, i, s);
         }
         let after = next.session;
         put_record(into, i * LINE, after);
         s = after;
         i += 1;
     }
-    worked_to(0, count, s)
+    worked_to(0, 0, count, s)
 }

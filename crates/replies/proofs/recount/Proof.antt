@@ -11,7 +11,7 @@ use borrow.Author.Needs.{needs}
 use Rattle.session.specs.Session.{wellFormed}
 use Rattle.rawreplies.specs.declared.Recounted.{Recounted}
 use Rattle.rawreplies.specs.Recount.{ended}
-use Rattle.rawreplies.proofs.Turns.{ends-not-well, ends-no-room, SoFar, at-start, at-end, turn-stops, turn-kept, turn-room, turn-goes}
+use Rattle.rawreplies.proofs.Turns.{ends-not-well, ends-no-room, SoFar, at-start, at-end, turn-halts, turn-kept, turn-room, turn-goes}
 use Rattle.replies.proofs.recount.Statement.{statement}
 use Rattle.replies.proofs.recount.Tie as tie
 
@@ -63,7 +63,7 @@ returns-3 c = let d = c .before in
     let g = d .before .before in
     let l = g .before .before .loop in
     ap (λ (r : Recounted). ended r (l .into)) (c .worked-to3 .ensures)
-    ∙ turn-stops (l .inv .0) (l .inv .3) (l .inv .2) (g .before .loop-test .taken) (g .answer-at .ensures) (d .if3 .taken)
+    ∙ turn-halts (l .inv .0) (l .inv .3) (l .inv .2) (g .before .loop-test .taken) (g .answer-at .ensures) (d .if3 .taken)
 
 mul-put-record : tie.Need-mul-put-record Inv-loop μ-loop
 mul-put-record c = search needs

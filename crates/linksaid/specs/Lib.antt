@@ -1,0 +1,3 @@
+pub mod Heard
+pub mod Lying
+pub mod Shipped

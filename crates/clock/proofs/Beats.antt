@@ -80,7 +80,7 @@ full p es h =
 
 lowers : (p c : ℕ) → 2 ≤ c → counterAfter p c (tick ∷ []) ≡ c - 1
 unfolding after
-lowers p c h = rw (lt-leb c 1 h)
+lowers p c h = ap (λ (b : Bool). cond b p (c - 1)) (lt-leb c 1 h)
 
 again : (p : ℕ) → counterAfter p 1 (tick ∷ []) ≡ p
 unfolding after

@@ -108,10 +108,17 @@ module _ (line : LossLine) (octets : List ℕ) (long : 24 ≤ length octets) (he
       let c : number littleEndian (part 20 4 octets) ≡ line .intervals = ap (number littleEndian) intervals-is ∙ number-back littleEndian 4 (line .intervals) (few-fit line k) in
       rw (a, b, c)
 
+-- three parts side by side, part by part
+side-by-side : {a b c x y z : List ℕ} → a ≡ x → b ≡ y → c ≡ z → a ++ b ++ c ≡ x ++ y ++ z
+side-by-side e1 e2 e3 = rw (e1, e2, e3)
+
 -- and the body from the line
 pub body-again : (octets : List ℕ) → Octets octets → 24 ≤ length octets → part 4 20 octets ≡ lineBody (lineIn octets)
 unfolding lineIn lineBody
 body-again octets all h =
     part-append 4 16 4 octets
     ∙ ap (λ (l : List ℕ). l ++ part 20 4 octets) (part-append 4 8 8 octets)
-    ∙ rw (signed-again 4 octets (omega arith) all, signed-again 12 octets (omega arith) all, read-again littleEndian 4 20 octets (omega arith) all)
+    ∙ side-by-side
+    (sym (signed-again 4 octets (omega arith) all))
+    (sym (signed-again 12 octets (omega arith) all))
+    (sym (read-again littleEndian 4 20 octets (omega arith) all))

@@ -6,12 +6,22 @@ use native.Mathlib.Nat.{pow-suc, pow-le-pow-right}
 use native.Mathlib.Numerals.{add-one}
 use native.Mathlib.Omega.{arith}
 use lib.Arith.{digits-lt}
+use lib.Bits.{bitAnd, and-le-r}
+use lib.Dec.{T, ltb, lit<}
 use lib.ListN.{length, getD, set, take}
 use lib.Seq.{length-take-le, take-suc}
+use mir.Syntax.{w8}
+use mir.Val.{Fits}
 use Rattle.whole.specs.Lists.{part, laid}
 use Rattle.whole.proofs.Lists.{part-append, part-cons, part-none, laid-none, laid-more, laid-before}
 use Rattle.octets.specs.Numbers.{Order, littleEndian, bigEndian, number, numberLowestFirst, octetsLowestFirst, inOctets}
 use Rattle.octets.proofs.Laws.{big-more, little-more, little-next, big-next, length-octets, divided}
+
+-- a number under a mask below 256 is an octet
+pub masked-fits : (a m : ℕ) → T (ltb m 256) → Fits w8 (bitAnd a m)
+masked-fits a m h =
+    let most : m < 256 = lit< h in
+    record { fits = omega (arith, and-le-r a m) }
 
 -- a number in k octets, and one octet more
 pub more-below : (k r x : ℕ) → r < 256 ^ k → x < 256 → r * 256 + x < 256 ^ (k + 1)

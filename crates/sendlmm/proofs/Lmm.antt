@@ -2,7 +2,7 @@
 use Prim.Native.Nat.{ℕ, _≤_, _<_}
 use mathlib.Core.Path.{_≡_, refl, sym, ap, _∙_}
 use mathlib.Core.Bool.{Bool, true, false, not, false≢true}
-use mathlib.Core.List.{List}
+use mathlib.Core.List.{List, [], _∷_}
 use mathlib.Core.Logic.{⊎-elim}
 use lib.Dec.{ltb, eqb}
 use lib.ListN.{length}
@@ -29,6 +29,16 @@ numbered NotWellFormed = 2
 numbered NoRoom = 3
 numbered Sent = 0
 
+-- of two rules the second decides, or neither
+module _ {b d : Bool} (x y z : LmmEnd) (first : b ≡ true) where
+  second : d ≡ true → choose ((not b, x) ∷ (d, y) ∷ []) z ≡ y
+  unfolding choose
+  second h = rw (first, h)
+
+  neither : d ≡ false → choose ((not b, x) ∷ (d, y) ∷ []) z ≡ z
+  unfolding choose
+  neither h = rw (first, h)
+
 module _ (s : State) (buffer : List ℕ) where
   abbrev o : LmmEnd
   o = sendLmm s buffer
@@ -39,18 +49,27 @@ module _ (s : State) (buffer : List ℕ) where
 
   -- ── one law for each way ──
 
+  abbrev bad-end : LmmEnd
+  bad-end = lmmEnded NotWellFormed buffer
+
+  abbrev short-end : LmmEnd
+  short-end = lmmEnded NoRoom buffer
+
+  abbrev sent-end : LmmEnd
+  sent-end = lmmEnded Sent (laid 0 (lmmOf s) buffer)
+
   at-2 : wellFormed s ≡ false → o ≡ lmmEnded NotWellFormed buffer
   unfolding sendLmm choose
   at-2 w = rw w
 
   module _ (w : wellFormed s ≡ true) where
     at-3 : length buffer < 31 → o ≡ lmmEnded NoRoom buffer
-    unfolding sendLmm choose
-    at-3 h = rw (w, lt-ltb (length buffer) 31 h)
+    unfolding sendLmm
+    at-3 h = second bad-end short-end sent-end w (lt-ltb (length buffer) 31 h)
 
     at-sent : 31 ≤ length buffer → o ≡ lmmEnded Sent (laid 0 (lmmOf s) buffer)
-    unfolding sendLmm choose
-    at-sent h = rw (w, le-ltb (length buffer) 31 h)
+    unfolding sendLmm
+    at-sent h = neither bad-end short-end sent-end w (le-ltb (length buffer) 31 h)
 
   -- ── the same from what the code knows ──
 

@@ -14,6 +14,7 @@ use Rattle.whole.proofs.Pieces.{first, more}
 use Rattle.octets.specs.Numbers.{littleEndian, number, inOctets, Octets}
 use Rattle.octets.proofs.Laws.{length-octets, number-here, read-again, signed-octets, signed-again}
 use Rattle.session.specs.declared.LossSession.{LossSession}
+use Rattle.session.specs.Session.{readings}
 use Rattle.sessionlayout.specs.Session.{field, fieldAt, signed, signedAt, sessionOctets, sessionAt, FieldsHold, SessionsInOctets}
 
 pub session-long : (s : LossSession) → length (sessionOctets s) ≡ 37
@@ -22,53 +23,76 @@ session-long s = simp (length-append, length-octets)
 
 -- ── octets from their session ──
 
+module _ (octets : List ℕ) (l : length octets ≡ 37) where
+  -- the fields side by side are all the octets
+  parts-again : {kept txf rxf txb ours near far intervals : List ℕ}
+      → kept ≡ part 0 1 octets
+      → txf ≡ part 1 4 octets
+      → rxf ≡ part 5 4 octets
+      → txb ≡ part 9 4 octets
+      → ours ≡ part 13 4 octets
+      → near ≡ part 17 8 octets
+      → far ≡ part 25 8 octets
+      → intervals ≡ part 33 4 octets
+      → kept ++ txf ++ rxf ++ txb ++ ours ++ near ++ far ++ intervals ≡ octets
+  parts-again e1 e2 e3 e4 e5 e6 e7 e8 =
+      rw (
+        e1,
+        e2,
+        e3,
+        e4,
+        e5,
+        e6,
+        e7,
+        e8,
+        ← part-append 0 1 4 octets,
+        ← part-append 0 5 4 octets,
+        ← part-append 0 9 4 octets,
+        ← part-append 0 13 4 octets,
+        ← part-append 0 17 8 octets,
+        ← part-append 0 25 8 octets,
+        ← part-append 0 33 4 octets,
+      )
+      (ap (λ (n : ℕ). part 0 n octets) (sym l) ∙ part-all octets)
+
 pub again : (octets : List ℕ) → length octets ≡ 37 → Octets octets → sessionOctets (sessionAt octets) ≡ octets
 unfolding sessionOctets
 again octets l h =
     let number-again : (k at : ℕ) → at + k ≤ 37 → field k (fieldAt at k octets) ≡ part at k octets =
     λ k at fits. read-again littleEndian k at octets (omega arith) h in
-    let near-again : signed (signedAt 17 octets) ≡ part 17 8 octets = signed-again 17 octets (omega arith) h in
-    let far-again : signed (signedAt 25 octets) ≡ part 25 8 octets = signed-again 25 octets (omega arith) h in
-    rw (
-      number-again 1 0 (omega arith),
-      number-again 4 1 (omega arith),
-      number-again 4 5 (omega arith),
-      number-again 4 9 (omega arith),
-      number-again 4 13 (omega arith),
-      near-again,
-      far-again,
-      number-again 4 33 (omega arith),
-      ← part-append 0 1 4 octets,
-      ← part-append 0 5 4 octets,
-      ← part-append 0 9 4 octets,
-      ← part-append 0 13 4 octets,
-      ← part-append 0 17 8 octets,
-      ← part-append 0 25 8 octets,
-      ← part-append 0 33 4 octets,
-    )
-    (ap (λ (n : ℕ). part 0 n octets) (sym l) ∙ part-all octets)
+    parts-again octets l
+    (number-again 1 0 (omega arith))
+    (number-again 4 1 (omega arith))
+    (number-again 4 5 (omega arith))
+    (number-again 4 9 (omega arith))
+    (number-again 4 13 (omega arith))
+    (signed-again 17 octets (omega arith) h)
+    (signed-again 25 octets (omega arith) h)
+    (number-again 4 33 (omega arith))
 
 -- ── the fields laid ──
 
-pub session-laid : (s : LossSession) (l : List ℕ) {a b c d e f g r : List ℕ} → length l ≡ 37
+pub session-laid : (s : LossSession) (l : List ℕ) {a b c d e f g r : List ℕ} {near far : ℤ} → length l ≡ 37
     → a ≡ laid 0 (field 1 (s .kept)) l
     → b ≡ laid 1 (field 4 (s .last .txf)) a
     → c ≡ laid 5 (field 4 (s .last .rxf)) b
     → d ≡ laid 9 (field 4 (s .last .txb)) c
     → e ≡ laid 13 (field 4 (s .last .ours)) d
-    → f ≡ laid 17 (signed (s .near)) e
-    → g ≡ laid 25 (signed (s .far)) f
+    → near ≡ s .near
+    → f ≡ laid 17 (signed near) e
+    → far ≡ s .far
+    → g ≡ laid 25 (signed far) f
     → r ≡ laid 33 (field 4 (s .intervals)) g
     → r ≡ sessionOctets s
 unfolding sessionOctets
-session-laid s l k e1 e2 e3 e4 e5 e6 e7 e8 =
+session-laid s l k e1 e2 e3 e4 e5 is-near e6 is-far e7 e8 =
     let p1 = first 0 1 (field 1 (s .kept)) l e1 (length-octets littleEndian 1 (s .kept)) in
     let p2 = more 4 (field 4 (s .last .txf)) p1 e2 (length-octets littleEndian 4 (s .last .txf)) (omega arith) in
     let p3 = more 4 (field 4 (s .last .rxf)) p2 e3 (length-octets littleEndian 4 (s .last .rxf)) (omega arith) in
     let p4 = more 4 (field 4 (s .last .txb)) p3 e4 (length-octets littleEndian 4 (s .last .txb)) (omega arith) in
     let p5 = more 4 (field 4 (s .last .ours)) p4 e5 (length-octets littleEndian 4 (s .last .ours)) (omega arith) in
-    let p6 = more 8 (signed (s .near)) p5 e6 (length-octets littleEndian 8 (ofZ w64 (s .near))) (omega arith) in
-    let p7 = more 8 (signed (s .far)) p6 e7 (length-octets littleEndian 8 (ofZ w64 (s .far))) (omega arith) in
+    let p6 = more 8 (signed (s .near)) p5 (rw is-near at e6) (length-octets littleEndian 8 (ofZ w64 (s .near))) (omega arith) in
+    let p7 = more 8 (signed (s .far)) p6 (rw is-far at e7) (length-octets littleEndian 8 (ofZ w64 (s .far))) (omega arith) in
     let p8 = more 4 (field 4 (s .intervals)) p7 e8 (length-octets littleEndian 4 (s .intervals)) (omega arith) in
     p8 .is ∙ laid-whole l (sessionOctets s) 37 k (p8 .long)
 
@@ -140,9 +164,30 @@ module _ (s : LossSession) where
     unfolding sessionOctets
     intervals-here = number-there (kept ++ txf ++ rxf ++ txb ++ ours ++ near ++ far) [] 33 4 (s .intervals) (sym (append-nil _)) (simp (length-append, length-octets)) (h .intervals)
 
+-- a session made of its parts
+made : (s : LossSession) {kept txf rxf txb ours intervals : ℕ} {near far : ℤ}
+    → kept ≡ s .kept
+    → txf ≡ s .last .txf
+    → rxf ≡ s .last .rxf
+    → txb ≡ s .last .txb
+    → ours ≡ s .last .ours
+    → near ≡ s .near
+    → far ≡ s .far
+    → intervals ≡ s .intervals
+    → record { kept = kept; last = readings txf rxf txb ours; near = near; far = far; intervals = intervals } ≡ s
+made s e1 e2 e3 e4 e5 e6 e7 e8 = rw (e1, e2, e3, e4, e5, e6, e7, e8)
+
 pub back : (s : LossSession) → FieldsHold s → sessionAt (sessionOctets s) ≡ s
 back s h =
-    rw (kept-here s h, txf-here s h, rxf-here s h, txb-here s h, ours-here s h, near-here s h, far-here s h, intervals-here s h)
+    made s
+    (kept-here s h)
+    (txf-here s h)
+    (rxf-here s h)
+    (txb-here s h)
+    (ours-here s h)
+    (near-here s h)
+    (far-here s h)
+    (intervals-here s h)
 
 pub sessions-in-octets : SessionsInOctets
 sessions-in-octets = record { long = session-long; again = again; back = back }

@@ -1,11 +1,11 @@
 -- `bits::ccm_flags` meets its contract: `joined`, one bit shifted up by 7 and three bits below it.
 use native.Mathlib.Omega.{arith}
-use Rattle.bits.proofs.Joined.{joined}
+use Rattle.bits.proofs.Joined.{joined, joined-fits}
 use Rattle.bits.proofs.ccm_flags.Statement.{statement}
 use Rattle.bits.proofs.ccm_flags.Tie as tie
 
 cast-result : tie.Need-cast-result
-cast-result c = rw (joined 32 (c .args .rdi) 1 7 (c .args .code) 3 (omega arith) (omega arith)) (omega arith)
+cast-result c = joined-fits (c .args .rdi) _ _ (c .args .code) _ tt tt
 
 returns : tie.Need-returns
 returns c = joined 32 (c .args .rdi) 1 7 (c .args .code) 3 (omega arith) (omega arith)

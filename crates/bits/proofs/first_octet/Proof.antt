@@ -1,11 +1,11 @@
 -- `bits::first_octet` meets its contract: `joined`, three bits shifted up by 5 and five bits below them.
 use native.Mathlib.Omega.{arith}
-use Rattle.bits.proofs.Joined.{joined}
+use Rattle.bits.proofs.Joined.{joined, joined-fits}
 use Rattle.bits.proofs.first_octet.Statement.{statement}
 use Rattle.bits.proofs.first_octet.Tie as tie
 
 cast-result : tie.Need-cast-result
-cast-result c = rw (joined 32 (c .args .level) 3 5 (c .args .version) 5 (omega arith) (omega arith)) (omega arith)
+cast-result c = joined-fits (c .args .level) _ _ (c .args .version) _ tt tt
 
 returns : tie.Need-returns
 returns c = joined 32 (c .args .level) 3 5 (c .args .version) 5 (omega arith) (omega arith)

@@ -1,11 +1,11 @@
 -- `bits::period_code_of` meets its contract: a mask of 3 ones is a remainder by 2 ^ 3.
-use native.Mathlib.Omega.{arith}
 use lib.Bits.{and-mask}
+use Rattle.bits.proofs.Joined.{masked-fits}
 use Rattle.bits.proofs.period_code_of.Statement.{statement}
 use Rattle.bits.proofs.period_code_of.Tie as tie
 
 cast-result : tie.Need-cast-result
-cast-result c = rw (and-mask (c .args .flags) 3) (omega arith)
+cast-result c = masked-fits _ _ (c .fits .flags .fits)
 
 returns : tie.Need-returns
 returns c = and-mask (c .args .flags) 3

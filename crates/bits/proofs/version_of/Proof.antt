@@ -1,11 +1,11 @@
 -- `bits::version_of` meets its contract: a mask of 5 ones is a remainder by 2 ^ 5.
-use native.Mathlib.Omega.{arith}
 use lib.Bits.{and-mask}
+use Rattle.bits.proofs.Joined.{masked-fits}
 use Rattle.bits.proofs.version_of.Statement.{statement}
 use Rattle.bits.proofs.version_of.Tie as tie
 
 cast-result : tie.Need-cast-result
-cast-result c = rw (and-mask (c .args .first) 5) (omega arith)
+cast-result c = masked-fits _ _ (c .fits .first .fits)
 
 returns : tie.Need-returns
 returns c = and-mask (c .args .first) 5

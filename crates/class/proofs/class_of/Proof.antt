@@ -19,7 +19,7 @@ add-if2 c = search needs
 
 returns-2 : tie.Need-returns-2
 unfolding classOf choose
-returns-2 c = rw (sym (c .before .before .is-oam .ensures) ∙ not-false _ (c .before .if1 .left), lt-ltb _ _ (c .if2 .taken))
+returns-2 c = rw (sym (c .before .before .is-oam .ensures) ∙ not-false _ (c .before .if1 .left), lt-ltb _ 18 (c .if2 .taken))
 
 level-requires : tie.Need-level-requires
 level-requires c κs = search needs

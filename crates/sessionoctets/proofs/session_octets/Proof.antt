@@ -66,8 +66,10 @@ returns c = let a = c .before .before .before .before .before .before .before .b
     (c .before .before .before .before .before .before .before .before .before .before .before .before .before .before .before .before .before .before .write-little3 .ensures)
     (c .before .before .before .before .before .before .before .before .before .before .before .before .before .before .before .write-little4 .ensures)
     (c .before .before .before .before .before .before .before .before .before .before .before .before .write-little5 .ensures)
-    (rw near at (c .before .before .before .before .before .before .before .before .write-little-signed .ensures))
-    (rw far at (c .before .before .before .before .write-little-signed2 .ensures))
+    near
+    (c .before .before .before .before .before .before .before .before .write-little-signed .ensures)
+    far
+    (c .before .before .before .before .write-little-signed2 .ensures)
     (c .before .write-little6 .ensures)
 
 pub session-octets-spec : {M : Type 1} → statement M

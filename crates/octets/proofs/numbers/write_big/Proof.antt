@@ -10,7 +10,7 @@ use lib.Bits.{bitAnd, and-mask}
 use lib.ListN.{length, set, length-set}
 use Rattle.whole.specs.Lists.{laid}
 use Rattle.octets.specs.Numbers.{inOctets, bigEndian}
-use Rattle.octets.proofs.Turns.{laid-nothing, down-write, down-rest}
+use Rattle.octets.proofs.Turns.{masked-fits, laid-nothing, down-write, down-rest}
 use Rattle.octets.proofs.numbers.write_big.Statement.{statement}
 use Rattle.octets.proofs.numbers.write_big.Tie as tie
 
@@ -29,7 +29,7 @@ sub-left : tie.Need-sub-left Inv-loop μ-loop
 sub-left c = omega arith
 
 cast-into : tie.Need-cast-into Inv-loop μ-loop
-cast-into c = rw (and-mask _ 8) (omega arith)
+cast-into c = masked-fits (c .before .loop .rest) _ tt
 
 add-into : tie.Need-add-into Inv-loop μ-loop
 add-into c = omega arith

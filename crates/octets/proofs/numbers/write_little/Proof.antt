@@ -11,7 +11,7 @@ use lib.ListN.{length, set, length-set}
 use Rattle.whole.specs.Lists.{laid}
 use Rattle.octets.specs.Numbers.{inOctets, littleEndian}
 use Rattle.octets.proofs.Laws.{divided}
-use Rattle.octets.proofs.Turns.{laid-nothing, up-turn}
+use Rattle.octets.proofs.Turns.{masked-fits, laid-nothing, up-turn}
 use Rattle.octets.proofs.numbers.write_little.Statement.{statement}
 use Rattle.octets.proofs.numbers.write_little.Tie as tie
 
@@ -25,7 +25,7 @@ loop-holds : tie.Need-loop-holds Inv-loop μ-loop
 loop-holds c = (omega arith, refl, laid-nothing littleEndian (c .args .at) (c .args .value) (now (c .args .into)), sym (div-one (c .args .value)))
 
 cast-into : tie.Need-cast-into Inv-loop μ-loop
-cast-into c = rw (and-mask _ 8) (omega arith)
+cast-into c = masked-fits (c .before .loop .rest) _ tt
 
 add-into : tie.Need-add-into Inv-loop μ-loop
 add-into c = omega arith

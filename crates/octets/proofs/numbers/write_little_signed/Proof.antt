@@ -16,7 +16,7 @@ use lib.ListN.{length, set, length-set}
 use Rattle.whole.specs.Lists.{laid}
 use Rattle.octets.specs.Numbers.{inOctets, littleEndian}
 use Rattle.octets.proofs.Laws.{divided}
-use Rattle.octets.proofs.Turns.{laid-nothing, up-turn}
+use Rattle.octets.proofs.Turns.{masked-fits, laid-nothing, up-turn}
 use Rattle.octets.proofs.numbers.write_little_signed.Statement.{statement}
 use Rattle.octets.proofs.numbers.write_little_signed.Tie as tie
 
@@ -52,7 +52,7 @@ loop-holds c = let a = c .before .args in
     (omega arith, refl, laid-nothing littleEndian (a .at) (c .if1 .bits) (now (a .into)), sym (div-one (c .if1 .bits)))
 
 cast-into : tie.Need-cast-into Inv-loop μ-loop
-cast-into c = rw (and-mask _ 8) (omega arith)
+cast-into c = masked-fits (c .before .before .loop .bits) _ tt
 
 add-into : tie.Need-add-into Inv-loop μ-loop
 add-into c = omega arith

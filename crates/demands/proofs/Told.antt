@@ -24,7 +24,7 @@ unfolding Setting.told
 of-setting setting.Invalid = refl
 of-setting setting.Set = refl
 
-of-frame : (r : FrameAnswer) → frameNumbers r ≡ numbersOf (frameAnswer r)
+of-frame : (r : FrameAnswer) → frameNumbers (Frame.told r) ≡ numbersOf (frameAnswer r)
 unfolding Frame.told
 of-frame answer.NotWellFormed = refl
 of-frame answer.BadLength = refl

@@ -13,6 +13,7 @@ use Rattle.sends.specs.declared.LmmAnswer.{LmmAnswer}
 use Rattle.sends.specs.declared.TickAnswer.{TickAnswer}
 use Rattle.answers.specs.Told as Frame
 use Rattle.answers.specs.declared.FrameAnswer.{FrameAnswer}
+use Rattle.answers.specs.declared.FrameTold.{FrameTold}
 use Rattle.demands.specs.Calls.{Answer, refused, dropped, passed, taken, written, loss, delay, delays, done, standing}
 use Rattle.demands.specs.Words.{settingAnswer, frameAnswer, clearAnswer, tickAnswer, lmmAnswer, dmmAnswer}
 
@@ -42,22 +43,22 @@ numbersOf (delays t f n) = record { refusal = 0; drop = 0; length = 0; near = po
 numbersOf done = counted 0 0 0
 numbersOf (standing r) = counted 0 0 0
 
--- what a frame is told, in these words
-abbrev pub frameNumbers : FrameAnswer → Numbers
-frameNumbers r = record {
-  refusal = Frame.told r .refusal;
-  drop = Frame.told r .drop;
-  length = Frame.told r .length;
-  near = Frame.told r .near;
-  far = Frame.told r .far;
-  twoway = Frame.told r .twoway;
-  onewayfar = Frame.told r .onewayfar;
-  onewaynear = Frame.told r .onewaynear;
+-- what a frame is told, in these words; but for what was done, which tells a first reading from an interval without loss
+abbrev pub frameNumbers : FrameTold → Numbers
+frameNumbers t = record {
+  refusal = t .refusal;
+  drop = t .drop;
+  length = t .length;
+  near = t .near;
+  far = t .far;
+  twoway = t .twoway;
+  onewayfar = t .onewayfar;
+  onewaynear = t .onewaynear;
 }
 
 pub record ToldAlike : Type 0 where
   pub setting : (r : SettingAnswer) → counted (Setting.told r .refusal) 0 0 ≡ numbersOf (settingAnswer r)
-  pub frame : (r : FrameAnswer) → frameNumbers r ≡ numbersOf (frameAnswer r)
+  pub frame : (r : FrameAnswer) → frameNumbers (Frame.told r) ≡ numbersOf (frameAnswer r)
   pub tick : (r : TickAnswer) → counted (tickTold r .refusal) 0 (tickTold r .length) ≡ numbersOf (tickAnswer r)
   pub clear : (r : ClearAnswer) → counted (Clear.told r .refusal) 0 0 ≡ numbersOf (clearAnswer r)
   pub lmm : (r : LmmAnswer) → counted (lmmTold r .refusal) 0 (lmmTold r .length) ≡ numbersOf (lmmAnswer r)

@@ -41,10 +41,10 @@ use Rattle.demands.specs.Words.{sideOf, takenOver, frameAnswer, conditionsAnswe
 use Rattle.demands.specs.Ours.{ours}
 use Rattle.demands.proofs.Follows.{ours-follows}
 use Rattle.demands.specs.Told as Told
-use Rattle.demands.specs.Told.{Numbers, counted}
+use Rattle.demands.specs.Told.{Numbers, counted, frameNumbers}
 use Rattle.demands.proofs.Told.{told-alike}
 use Rattle.demands.proofs.Tied.{from-arrays, taken-over}
-use Rattle.linksaid.specs.Heard.{plainSays, frameSays, tickSays, sendSays, frameNumbers}
+use Rattle.linksaid.specs.Heard.{plainSays, frameSays, tickSays, sendSays}
 use Rattle.linksaid.specs.Lying.{stateIn, behind, sideBy}
 use Rattle.linksaid.specs.Shipped.{Tells, Shipped}
 use Rattle.linksaid.proofs.Heard.{setting-says, clear-says, frame-says, tick-says, lmm-says, dmm-says}

@@ -16,7 +16,6 @@ use Rattle.lossrecord.specs.declared.LineTold.{LineTold}
 use Rattle.reasons.specs.declared.TlvTold.{TlvTold}
 use Rattle.linkreader.specs.declared.TlvAt.{TlvAt}
 use Rattle.demands.specs.Calls.{Answer, refused, dropped, passed, taken, written, loss, delay, delays, done}
-use Rattle.demands.specs.Told.{Numbers}
 use Rattle.recordsaid.specs.Records as stored
 use Rattle.recordsaid.specs.Records.{RecordTells}
 use Rattle.readersaid.specs.Reader as reader
@@ -73,19 +72,6 @@ tlvSays t f =
     reader.no-such
 
 -- ── the numbers of an answer ──
-
--- a frame's, but for what was done, which tells a first reading from an interval without loss
-abbrev pub frameNumbers : FrameTold → Numbers
-frameNumbers t = record {
-  refusal = t .refusal;
-  drop = t .drop;
-  length = t .length;
-  near = t .near;
-  far = t .far;
-  twoway = t .twoway;
-  onewayfar = t .onewayfar;
-  onewaynear = t .onewaynear;
-}
 
 -- a record that is written, a loss line that is read
 abbrev pub writeNumbers : RecordTells → RecordTold

@@ -15,7 +15,7 @@ use Rattle.demands.specs.Calls as call
 use Rattle.demands.specs.Calls.{Answer, HandedOut, nothing, Outcome}
 use Rattle.demands.specs.Said.{Said}
 use Rattle.demands.specs.Words.{takenOver, conditionsAnswer}
-use Rattle.demands.specs.Told.{Numbers, counted, numbersOf}
+use Rattle.demands.specs.Told.{Numbers, counted, numbersOf, frameNumbers}
 use Rattle.recordsaid.specs.Records as stored
 use Rattle.recordsaid.specs.Records.{RecordLeft, leaving, RecordSaid}
 use Rattle.readersaid.specs.Reader.{ReaderTells, ReaderSaid}
@@ -31,7 +31,7 @@ use Rattle.linkrecord.proofs.linkbox_write_settings.Reads as write-settings
 use Rattle.linkrecord.proofs.linkbox_read_line.Reads as read-line
 use Rattle.linkrecord.proofs.linkbox_write_line.Reads as write-line
 use Rattle.linkreader.proofs.linkbox_tlv.Reads as tlv
-use Rattle.linksaid.specs.Heard.{plainSays, frameSays, tickSays, sendSays, settingsSays, writeSays, lineSays, tlvSays, frameNumbers, writeNumbers, lineNumbers, tlvNumbers}
+use Rattle.linksaid.specs.Heard.{plainSays, frameSays, tickSays, sendSays, settingsSays, writeSays, lineSays, tlvSays, writeNumbers, lineNumbers, tlvNumbers}
 use Rattle.linksaid.specs.Lying.{stateIn, afterFrame, afterTick, afterClear, behind, arrivalIn}
 
 -- the answer that C reads from its numbers is the paper's, and the numbers are those of that answer, all others 0; the state that lies with

@@ -62,10 +62,10 @@ compile() {
 # write_linkbox DIR: a program that makes every call of the C boundary, so that the compiler compiles them all
 write_linkbox() {
     cat <<'RT'
-use stamps::Stamp;
-use session::LossSession;
-use session::Readings;
-use lossrecord::LossLine;
+use base_stamp::Stamp;
+use loss_session::LossSession;
+use loss_session::Readings;
+use stored_line::LossLine;
 
 fn main() {
     let set = [0u32; 4];
@@ -81,19 +81,19 @@ fn main() {
     let last = Readings { txf: 0, rxf: 0, txb: 0, ours: 0 };
     let mut session = LossSession { kept: 0, intervals: 0, last, near: 0, far: 0 };
     let line = LossLine { near: 0, far: 0, intervals: 0 };
-    let _a = linkstate::linkbox_new_setting(&set, &names, &ids);
-    let _b = linkframe::linkbox_frame(&set, &names, &ids, &mut timers, &mut rdi, &mut run, &mut totals, 1, &frame, zero, zero, &mut out);
-    let _c = linksend::linkbox_tick(&set, &names, &ids, &mut timers, &rdi, &mut run, &totals, &mut out);
-    let _d = linkstate::linkbox_clear(&set, &names, &ids, &timers, &rdi, &mut run, &mut totals);
-    let _e = linksend::linkbox_send_lmm(&set, &names, &ids, &timers, &rdi, &run, &totals, &mut out);
-    let _f = linksend::linkbox_send_dmm(&set, &names, &ids, &timers, &rdi, &run, &totals, zero, &mut out);
-    let _g = linkstate::linkbox_conditions(&set, &names, &ids, &timers, &rdi, &run, &totals);
-    let _h = linkcard::linkbox_measure(&mut session, 0, 0, 0, 0);
-    let _i = linkrecord::linkbox_read_settings(&frame);
-    let _j = linkrecord::linkbox_write_settings(&mut out, &set, &names, &ids);
-    let _k = linkrecord::linkbox_read_line(&frame);
-    let _l = linkrecord::linkbox_write_line(&mut out, line);
-    let _m = linkreader::linkbox_tlv(&frame, 0);
+    let _a = linkbox_state::linkbox_new_setting(&set, &names, &ids);
+    let _b = linkbox_frame::linkbox_frame(&set, &names, &ids, &mut timers, &mut rdi, &mut run, &mut totals, 1, &frame, zero, zero, &mut out);
+    let _c = linkbox_send::linkbox_tick(&set, &names, &ids, &mut timers, &rdi, &mut run, &totals, &mut out);
+    let _d = linkbox_state::linkbox_clear(&set, &names, &ids, &timers, &rdi, &mut run, &mut totals);
+    let _e = linkbox_send::linkbox_send_lmm(&set, &names, &ids, &timers, &rdi, &run, &totals, &mut out);
+    let _f = linkbox_send::linkbox_send_dmm(&set, &names, &ids, &timers, &rdi, &run, &totals, zero, &mut out);
+    let _g = linkbox_state::linkbox_conditions(&set, &names, &ids, &timers, &rdi, &run, &totals);
+    let _h = linkbox_session::linkbox_measure(&mut session, 0, 0, 0, 0);
+    let _i = linkbox_records::linkbox_read_settings(&frame);
+    let _j = linkbox_records::linkbox_write_settings(&mut out, &set, &names, &ids);
+    let _k = linkbox_records::linkbox_read_line(&frame);
+    let _l = linkbox_records::linkbox_write_line(&mut out, line);
+    let _m = linkbox_reader::linkbox_tlv(&frame, 0);
 }
 RT
 }

@@ -1,22 +1,22 @@
 // Prints what frames read as. Standard input has a frame a line, in hex: the TLV type that is asked for, then the frame's octets; blanks are
 // passed over, and `#` begins a comment. Each line prints its message with the fields, or the refusal or drop, and behind a bar what the
 // reader says of the TLV.
-use ccmfields::ccm_fields;
-use ccmfields::meg_id;
-use fields::alarm_period;
-use fields::transaction;
-use header::level;
-use header::version;
-use incoming::message_answer;
-use kinds::tell as tell_message;
+use base_stamp::Stamp;
+use frame_ccm::ccm_fields;
+use frame_ccm::meg_id;
+use frame_level::level;
+use frame_level::version;
+use frame_loopback_alarm::alarm_period;
+use frame_loopback_alarm::transaction;
+use frame_measures::delay_fields;
+use frame_measures::loss_fields;
+use frame_message::message_answer;
+use frame_message_answer::tell as tell_message;
+use frame_reader::tlv_answer;
+use frame_reader::tlv_value;
+use frame_reader_answer::tell as tell_tlv;
 use libc::STDIN_FILENO;
 use libc::STDOUT_FILENO;
-use measures::delay_fields;
-use measures::loss_fields;
-use reader::tlv_answer;
-use reader::tlv_value;
-use reasons::tell as tell_tlv;
-use stamps::Stamp;
 
 // A word, and the number behind it.
 fn print_number(word: &[u8], n: u32) {

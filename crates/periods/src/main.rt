@@ -45,8 +45,8 @@ fn print_number(n: u32) {
 fn print_row(code: u32) {
     print_number(code);
     print_name(code);
-    print_number(period::ticks_of(code));
-    print_number(period::hold_of(code));
+    print_number(base_period::ticks_of(code));
+    print_number(base_period::hold_of(code));
     io::write_all(STDOUT_FILENO, b"\n");
 }
 

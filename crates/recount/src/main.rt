@@ -5,11 +5,11 @@
 use libc::STDERR_FILENO;
 use libc::STDIN_FILENO;
 use libc::STDOUT_FILENO;
-use lossrecord::LINE;
-use replies::REPLY;
-use replies::recount;
-use session::LossSession;
-use session::cleared;
+use loss_session::LossSession;
+use loss_session::cleared;
+use stored_line::LINE;
+use stored_recount::REPLY;
+use stored_recount::recount;
 
 // The octets read at a time: whole replies, so that none lies across two chunks.
 const CHUNK: usize = 16384;

@@ -1,12 +1,12 @@
 // The parts of a call's body. A call stands at the front of its array, number first, so that a part at a fixed place is always there; what a call's
 // length must be, the room `calls` has tested.
-use calls::MOST;
-use octets::numbers::read_little;
-use octets::parts::copy_octets;
-use settingsbody::BODY;
-use settingsbody::SettingsRead;
-use settingsbody::settings_of;
-use stamps::Stamp;
+use base_octets::numbers::read_little;
+use base_octets::parts::copy_octets;
+use base_stamp::Stamp;
+use replay_calls::MOST;
+use stored_settings_body::BODY;
+use stored_settings_body::SettingsRead;
+use stored_settings_body::settings_of;
 
 // The stamp at a place.
 pub(crate) fn stamp(call: &[u8; MOST], at: usize) -> Stamp {

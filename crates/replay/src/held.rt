@@ -1,8 +1,8 @@
 // What is held from call to call.
-use session::LossSession;
-use session::cleared;
-use settings::PEERS;
-use state::StateArrays;
+use loss_session::LossSession;
+use loss_session::cleared;
+use state_settings::PEERS;
+use state_view::StateArrays;
 
 // The state and the lent session.
 pub(crate) struct Held {

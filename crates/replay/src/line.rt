@@ -1,8 +1,8 @@
 // The parts that lines share. Each is put behind what stands already, and answers the place behind itself.
-use calls::MOST;
-use digits::write_decimal;
-use hex::write_hex;
-use spelling::write_word;
+use base_hex::write_hex;
+use base_number_write::write_decimal;
+use base_text::write_word;
+use replay_calls::MOST;
 
 // A space, and a number behind it.
 pub(crate) fn number(line: &mut [u8], at: usize, value: i64) -> usize {

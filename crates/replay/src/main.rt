@@ -31,17 +31,17 @@ use crate::steps::run_clear;
 use crate::steps::run_frame;
 use crate::steps::run_setting;
 use crate::steps::run_tick;
-use calls::MOST;
-use calls::ROOM;
-use calls::call_length;
-use calls::hands_over;
-use calls::room_of;
-use goodcalls::is_call;
+use base_octets::numbers::read_little;
+use base_text::write_word;
 use libc::STDIN_FILENO;
 use libc::STDOUT_FILENO;
-use octets::numbers::read_little;
-use spelling::write_word;
-use state::StateArrays;
+use replay_calls::MOST;
+use replay_calls::ROOM;
+use replay_calls::call_length;
+use replay_calls::hands_over;
+use replay_calls::room_of;
+use replay_good_calls::is_call;
+use state_view::StateArrays;
 
 // Room for the longest line: 1,600 octets in hex, and the answer before them.
 const LINE: usize = 4096;

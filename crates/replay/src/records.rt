@@ -7,24 +7,24 @@ use crate::line::refused;
 use crate::line::said;
 use crate::line::sent;
 use crate::line::worded;
-use calls::MOST;
-use lossline::read_line;
-use lossline::write_line;
-use lossrecord::LossLine;
-use octets::numbers::read_little;
-use octets::numbers::read_little_signed;
-use reader::tlv_answer;
-use reader::tlv_value;
-use settingsoctets::body_of;
-use settingsrecord::read_settings;
-use settingsrecord::write_settings;
-use spelling::write_word;
+use base_octets::numbers::read_little;
+use base_octets::numbers::read_little_signed;
+use base_text::write_word;
+use frame_reader::tlv_answer;
+use frame_reader::tlv_value;
+use replay_calls::MOST;
+use stored_line::LossLine;
+use stored_line_calls::read_line;
+use stored_line_calls::write_line;
+use stored_settings::read_settings;
+use stored_settings::write_settings;
+use stored_settings_body_write::body_of;
 
 // 265: what the reader says of a TLV.
 pub(crate) fn ask_tlv(call: &[u8; MOST], n: usize, line: &mut [u8]) -> usize {
     let kind = call[2];
     let frame = rest(call, 3, n);
-    let told = reasons::tell(tlv_answer(frame, kind));
+    let told = frame_reader_answer::tell(tlv_answer(frame, kind));
     let behind = reason(line, told.refusal, told.drop);
     if 0 < behind {
         return behind;
@@ -54,13 +54,13 @@ pub(crate) fn run_write_settings(call: &[u8; MOST], out: &mut [u8], line: &mut [
     let set = read.set;
     let names = read.names;
     let ids = read.ids;
-    let told = record::tell(write_settings(out, &set, &names, &ids));
+    let told = stored_record::tell(write_settings(out, &set, &names, &ids));
     sent(line, told.refusal, told.length)
 }
 
 // 270: a stored loss line.
 pub(crate) fn run_read_line(call: &[u8; MOST], n: usize, line: &mut [u8]) -> usize {
-    let told = lossrecord::tell(read_line(rest(call, 2, n)));
+    let told = stored_line::tell(read_line(rest(call, 2, n)));
     if told.refusal != 0 {
         return refused(line, told.refusal);
     }
@@ -77,6 +77,6 @@ pub(crate) fn run_write_line(call: &[u8; MOST], out: &mut [u8], line: &mut [u8])
         far: read_little_signed(all, 12),
         intervals: read_little(all, 20, 4),
     };
-    let told = record::tell(write_line(out, given));
+    let told = stored_record::tell(write_line(out, given));
     sent(line, told.refusal, told.length)
 }

@@ -4,18 +4,18 @@ use crate::line::number;
 use crate::line::refused;
 use crate::line::sent;
 use crate::line::worded;
-use calls::MOST;
-use conditions::ConditionFlags;
-use conditions::conditions;
-use senddmm::send_dmm;
-use sendlmm::send_lmm;
-use sends::tell_dmm;
-use sends::tell_lmm;
-use settings::COUNT;
-use settings::PEERS;
-use spelling::write_word;
-use state::StateArrays;
-use stateoctets::state_octets;
+use base_text::write_word;
+use call_conditions::ConditionFlags;
+use call_conditions::conditions;
+use call_send_answer::tell_dmm;
+use call_send_answer::tell_lmm;
+use call_send_dmm::send_dmm;
+use call_send_lmm::send_lmm;
+use replay_calls::MOST;
+use replay_state_write::state_octets;
+use state_settings::COUNT;
+use state_settings::PEERS;
+use state_view::StateArrays;
 
 // 261: an LMM.
 pub(crate) fn run_lmm(state: StateArrays, out: &mut [u8], line: &mut [u8]) -> usize {

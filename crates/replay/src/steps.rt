@@ -11,25 +11,25 @@ use crate::line::number;
 use crate::line::reason;
 use crate::line::said;
 use crate::line::sent;
-use answers::ALL_WAYS;
-use answers::FIRST;
-use answers::FrameTold;
-use answers::LOSS;
-use answers::PASSED;
-use answers::REPLIED;
-use answers::TAKEN;
-use answers::TWO_WAY;
-use calls::MOST;
-use class::Side;
-use clear::clear;
-use octets::parts::copy_octets;
-use receive::on_frame;
-use spelling::write_word;
-use start::new_setting;
-use state::StateArrays;
-use statein::state_in;
-use statelayout::STATE;
-use tick::tick;
+use base_octets::parts::copy_octets;
+use base_text::write_word;
+use call_clear::clear;
+use call_setting::new_setting;
+use call_tick::tick;
+use receive_answer::ALL_WAYS;
+use receive_answer::FIRST;
+use receive_answer::FrameTold;
+use receive_answer::LOSS;
+use receive_answer::PASSED;
+use receive_answer::REPLIED;
+use receive_answer::TAKEN;
+use receive_answer::TWO_WAY;
+use receive_class::Side;
+use receive_frame::on_frame;
+use replay_calls::MOST;
+use replay_state::STATE;
+use replay_state_read::state_in;
+use state_view::StateArrays;
 
 // 257: what the setting hands out becomes the held state: the state that it starts with, zeros where it is refused.
 pub(crate) fn run_setting(held: Held, call: &[u8; MOST], line: &mut [u8]) -> Ran {
@@ -40,7 +40,7 @@ pub(crate) fn run_setting(held: Held, call: &[u8; MOST], line: &mut [u8]) -> Ran
     let started = new_setting(&set, &names, &ids);
     let answer = started.answer;
     let state = started.state;
-    let told = settinganswer::tell(answer);
+    let told = call_setting_answer::tell(answer);
     stepped(held, state, done(line, told.refusal, b"set"))
 }
 
@@ -120,7 +120,7 @@ pub(crate) fn run_frame(
         stamp(call, 13),
         out,
     );
-    let told = answers::tell(answer);
+    let told = receive_answer::tell(answer);
     after.timers = timers;
     after.rdi = rdi;
     after.run = run;
@@ -156,7 +156,7 @@ pub(crate) fn run_tick(held: Held, out: &mut [u8], line: &mut [u8]) -> Ran {
         &totals,
         out,
     );
-    let told = sends::tell_tick(answer);
+    let told = call_send_answer::tell_tick(answer);
     after.timers = timers;
     after.run = run;
     stepped(held, after, tick_said(line, told.refusal, told.length))
@@ -173,7 +173,7 @@ pub(crate) fn run_clear(held: Held, line: &mut [u8]) -> Ran {
     let mut run = after.run;
     let mut totals = after.totals;
     let answer = clear(&set, &names, &ids, &timers, &rdi, &mut run, &mut totals);
-    let told = clear::tell(answer);
+    let told = call_clear::tell(answer);
     after.run = run;
     after.totals = totals;
     stepped(held, after, done(line, told.refusal, b"cleared"))

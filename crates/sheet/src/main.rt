@@ -3,9 +3,9 @@
 use libc::STDERR_FILENO;
 use libc::STDIN_FILENO;
 use libc::STDOUT_FILENO;
-use lines::Lines;
-use lines::write_lines;
-use sheettext::header;
+use stored_sheet::header;
+use stored_sheet_lines::Lines;
+use stored_sheet_lines::write_lines;
 
 // The octets read at a time: whole records, so that none lies across two chunks.
 const CHUNK: usize = 24576;

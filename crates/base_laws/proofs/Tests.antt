@@ -1,0 +1,52 @@
+-- The statements of specs/Tests.antt, and the two cases of a Bool. Assumes nothing.
+use mathlib.Core.Path.{_≡_, refl, ap, _∙_}
+use mathlib.Core.Bool.{Bool, true, false, cond, _&&_, _||_, false≢true}
+use mathlib.Core.List.{List, [], _∷_, _++_, map}
+use mathlib.Core.Logic.{_↔_, _⊎_, inl, inr, ⊎-elim}
+use Rattle.base_laws.specs.Tests.{choose, Chains}
+
+-- a test holds or it does not
+pub known : (b : Bool) → (b ≡ true) ⊎ (b ≡ false)
+known true = inl refl
+known false = inr refl
+
+pub both-true : (a b : Bool) → ((a && b) ≡ true) ↔ ((a ≡ true) × (b ≡ true))
+both-true true b = (λ h. (refl, h), λ h. h .1)
+both-true false b = (λ h. absurd (false≢true h), λ h. h .0)
+
+-- the same, one way at a time
+pub split : (a b : Bool) → (a && b) ≡ true → (a ≡ true) × (b ≡ true)
+split a b = both-true a b .0
+
+pub join : (a b : Bool) → a ≡ true → b ≡ true → (a && b) ≡ true
+join a b h k = both-true a b .1 (h, k)
+
+pub either-true : (a b : Bool) → ((a || b) ≡ true) ↔ ((a ≡ true) ⊎ (b ≡ true))
+either-true true b = (λ h. inl refl, λ h. refl)
+either-true false b = (λ h. inr h, ⊎-elim (λ h. absurd (false≢true h)) (λ h. h))
+
+pub choose-holds : {A : Type 0} (outcome : A) (rules : List (Bool × A)) (otherwise : A) → choose ((true, outcome) ∷ rules) otherwise ≡ outcome
+unfolding choose
+choose-holds outcome rules otherwise = refl
+
+pub choose-fails : {A : Type 0} (outcome : A) (rules : List (Bool × A)) (otherwise : A) → choose ((false, outcome) ∷ rules) otherwise ≡ choose rules otherwise
+unfolding choose
+choose-fails outcome rules otherwise = refl
+
+pub choose-none : {A : Type 0} (otherwise : A) → choose [] otherwise ≡ otherwise
+unfolding choose
+choose-none otherwise = refl
+
+pub choose-map : {A B : Type 0} (f : A → B) (rules : List (Bool × A)) (otherwise : A)
+    → f (choose rules otherwise) ≡ choose (map (λ rule. (rule .0, f (rule .1))) rules) (f otherwise)
+unfolding choose
+choose-map f [] otherwise = refl
+choose-map f (rule ∷ rules) otherwise =
+    either (rule .0) (rule .1) (choose rules otherwise) ∙ ap (λ x. cond (rule .0) (f (rule .1)) x) (choose-map f rules otherwise)
+  where
+    either : (b : Bool) (x y : _) → f (cond b x y) ≡ cond b (f x) (f y)
+    either true x y = refl
+    either false x y = refl
+
+pub chains : Chains
+chains = record { holds = choose-holds; fails = choose-fails; none = choose-none; mapped = choose-map; both = both-true; either = either-true }

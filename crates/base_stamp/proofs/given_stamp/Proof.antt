@@ -1,0 +1,10 @@
+-- `stamps::given_stamp` keeps its promise: each part is found by search.
+use borrow.Author.Needs.{needs}
+use Rattle.base_stamp.proofs.given_stamp.Statement.{statement}
+use Rattle.base_stamp.proofs.given_stamp.Tie as tie
+
+returns : tie.Need-returns
+returns c = search needs
+
+pub given-stamp-spec : {M : Type 1} → statement M
+given-stamp-spec = tie.close (tie.spec returns)

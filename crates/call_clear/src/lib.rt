@@ -1,0 +1,55 @@
+// A clear: the loss session starts anew, and nothing else of the state changes.
+ghost use mathlib.Core.Path.{_≡_};
+ghost use Rattle.state_view.specs.State.{lying};
+ghost use Rattle.state_places.specs.Stored.{Whole};
+ghost use Rattle.call_clear.specs.Clear.{ended, clearOf, told, numbersOf};
+use loss_session::cleared;
+use state_places::put_session;
+use state_settings::PEERS;
+use state_well_formed::is_well_formed;
+
+// What a clear is answered.
+pub enum ClearAnswer {
+    // Refusal 2: the state is not well formed.
+    NotWellFormed,
+    Cleared,
+}
+
+// An answer in the paper's numbers: the refusal, or 0.
+#[repr(C)]
+pub struct ClearTold {
+    pub refusal: u32,
+}
+
+// Forgets the kept reading, the intervals and both totals.
+pub fn clear(
+    set: &[u32; 4],
+    names: &[u8; 60],
+    ids: &[u32; PEERS],
+    timers: &[u32; PEERS],
+    rdi: &[u32; PEERS],
+    run: &mut [u32; 15],
+    totals: &mut [i64; 2],
+) -> ClearAnswer
+    ensures { λ r. ⌜ (ended r (lying (set .entry) (names .entry) (ids .entry) (timers .entry) (rdi .entry) (run .exit) (totals .exit)) ≡ clearOf (lying (set .entry) (names .entry) (ids .entry) (timers .entry) (rdi .entry) (run .entry) (totals .entry))) × (told r ≡ numbersOf (lying (set .entry) (names .entry) (ids .entry) (timers .entry) (rdi .entry) (run .entry) (totals .entry))) ⌝ }
+    ensures { λ _. ⌜ Whole (now (run .exit)) (now (totals .exit)) ⌝ }
+{
+    // a view of an array tells its length, and costs nothing
+    let _words: &[u32] = run;
+    let _both: &[i64] = totals;
+    if !is_well_formed(set, names, ids, timers, rdi, run, totals) {
+        return ClearAnswer::NotWellFormed;
+    }
+    put_session(set, names, ids, timers, rdi, run, totals, cleared());
+    ClearAnswer::Cleared
+}
+
+// An answer in the paper's numbers.
+pub fn tell(answer: ClearAnswer) -> ClearTold
+    ensures { λ r. ⌜ r ≡ told answer ⌝ }
+{
+    match answer {
+        ClearAnswer::NotWellFormed => ClearTold { refusal: 2 },
+        ClearAnswer::Cleared => ClearTold { refusal: 0 },
+    }
+}

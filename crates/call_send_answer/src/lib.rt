@@ -1,0 +1,113 @@
+// What the three calls that send are answered, a tick, send LMM and send DMM, and the same in the paper's numbers.
+ghost use mathlib.Core.Path.{_≡_};
+ghost use Rattle.call_send_answer.specs.Told.{tickTold, lmmTold, dmmTold};
+use message_parts::parts::WrittenTold;
+
+// How long a CCM is.
+const CCM_LENGTH: usize = 89;
+// How long an LMM is.
+const LMM_LENGTH: usize = 31;
+// How long a DMM is.
+const DMM_LENGTH: usize = 51;
+
+// What a tick is answered.
+pub enum TickAnswer {
+    // Refusal 2: the state is not well formed.
+    NotWellFormed,
+    // Refusal 3: the period's last tick, and the buffer is shorter than a CCM.
+    NoRoom,
+    // The tick has passed, and nothing is to be sent.
+    Quiet,
+    // It has passed, and a CCM stands in the buffer's first 89 octets.
+    Sent,
+}
+
+// What is answered where an LMM is to be sent.
+pub enum LmmAnswer {
+    // Refusal 2: the state is not well formed.
+    NotWellFormed,
+    // Refusal 3: the buffer is shorter than the message.
+    NoRoom,
+    // The message stands in the buffer's first 31 octets.
+    Sent,
+}
+
+// What is answered where a DMM is to be sent.
+pub enum DmmAnswer {
+    // Refusal 2: the state is not well formed.
+    NotWellFormed,
+    // Refusal 6: the caller's stamp has too many nanoseconds.
+    BadStamp,
+    // Refusal 3: the buffer is shorter than the message.
+    NoRoom,
+    // The message stands in the buffer's first 51 octets.
+    Sent,
+}
+
+// An answer to a tick in the paper's numbers.
+pub fn tell_tick(answer: TickAnswer) -> WrittenTold
+    ensures { λ r. ⌜ r ≡ tickTold answer ⌝ }
+{
+    match answer {
+        TickAnswer::NotWellFormed => WrittenTold {
+            refusal: 2,
+            length: 0,
+        },
+        TickAnswer::NoRoom => WrittenTold {
+            refusal: 3,
+            length: 0,
+        },
+        TickAnswer::Quiet => WrittenTold {
+            refusal: 0,
+            length: 0,
+        },
+        TickAnswer::Sent => WrittenTold {
+            refusal: 0,
+            length: CCM_LENGTH,
+        },
+    }
+}
+
+// An answer about an LMM in the paper's numbers.
+pub fn tell_lmm(answer: LmmAnswer) -> WrittenTold
+    ensures { λ r. ⌜ r ≡ lmmTold answer ⌝ }
+{
+    match answer {
+        LmmAnswer::NotWellFormed => WrittenTold {
+            refusal: 2,
+            length: 0,
+        },
+        LmmAnswer::NoRoom => WrittenTold {
+            refusal: 3,
+            length: 0,
+        },
+        LmmAnswer::Sent => WrittenTold {
+            refusal: 0,
+            length: LMM_LENGTH,
+        },
+    }
+}
+
+// An answer about a DMM in the paper's numbers.
+pub fn tell_dmm(answer: DmmAnswer) -> WrittenTold
+    ensures { λ r. ⌜ r ≡ dmmTold answer ⌝ }
+{
+    match answer {
+        DmmAnswer::NotWellFormed => WrittenTold {
+            refusal: 2,
+            length: 0,
+        },
+        DmmAnswer::BadStamp => WrittenTold {
+            refusal: 6,
+            length: 0,
+        },
+        DmmAnswer::NoRoom => WrittenTold {
+            refusal: 3,
+            length: 0,
+        },
+        DmmAnswer::Sent => WrittenTold {
+            refusal: 0,
+            length: DMM_LENGTH,
+        },
+    }
+}

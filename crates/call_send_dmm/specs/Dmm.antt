@@ -1,0 +1,77 @@
+-- A DMM, when asked. The paper, "A tick": 51 octets, first stamp the caller's, to the loss peer. Refusals 2, 6 and 3, in this order. Definitions and the statement only.
+use Prim.Native.Nat.{ℕ, _≤_, _<_}
+use mathlib.Core.Path.{_≡_}
+use mathlib.Core.List.{List, [], _∷_}
+use mathlib.Core.Bool.{not}
+use mathlib.Core.Logic.{_↔_}
+use lib.Dec.{ltb}
+use lib.ListN.{length}
+use Rattle.base_laws.specs.Tests.{choose}
+use Rattle.base_laws.specs.Lists.{laid}
+use Rattle.state_view.specs.State.{State}
+use Rattle.state_view.specs.WellFormed.{WellFormed, wellFormed}
+use Rattle.base_stamp.specs.declared.Stamp.{Stamp}
+use Rattle.base_stamp.specs.Stamps.{good, notGiven}
+use Rattle.message_requests.specs.Requests.{dmmOctets}
+use Rattle.call_send_answer.specs.declared.DmmAnswer.{DmmAnswer}
+use Rattle.call_send_answer.specs.declared.DmmAnswer.the-variants.{NotWellFormed, BadStamp, NoRoom, Sent}
+use Rattle.message_parts.specs.declared.parts.WrittenTold.{WrittenTold}
+use Rattle.message_parts.specs.Buffer.{numbers}
+use Rattle.call_send_answer.specs.Told.{dmmLength, dmmTold}
+
+-- to the loss peer, from us, with the caller's stamp
+unfoldable pub dmmOf : State → Stamp → List ℕ
+dmmOf s stamp = dmmOctets (s .settings .losspeer) (s .settings .own) (s .settings .level) stamp
+
+-- ── the whole outcome ──
+
+-- what is answered, and what the buffer then holds
+pub record DmmEnd : Type 0 where
+  pub answer : DmmAnswer
+  pub buffer : List ℕ
+
+-- the two by name
+abbrev pub dmmEnded : DmmAnswer → List ℕ → DmmEnd
+dmmEnded answer buffer = record { answer = answer; buffer = buffer }
+
+-- refusal 2; refusal 6; refusal 3; the message laid over the buffer's first octets
+unfoldable pub sendDmm : State → Stamp → List ℕ → DmmEnd
+sendDmm s stamp buffer =
+    choose (
+    (not (wellFormed s), dmmEnded NotWellFormed buffer)
+    ∷ (not (good stamp), dmmEnded BadStamp buffer)
+    ∷ (ltb (length buffer) dmmLength, dmmEnded NoRoom buffer)
+    ∷ [])
+    (dmmEnded Sent (laid 0 (dmmOf s stamp) buffer))
+
+-- ── in the paper's numbers ──
+
+-- the same from what is given alone
+unfoldable pub dmmNumbers : State → Stamp → List ℕ → WrittenTold
+dmmNumbers s stamp buffer =
+    choose (
+    (not (wellFormed s), numbers 2 0)
+    ∷ (not (good stamp), numbers 6 0)
+    ∷ (ltb (length buffer) dmmLength, numbers 3 0)
+    ∷ [])
+    (numbers 0 dmmLength)
+
+-- what is said of every state, stamp and buffer
+pub record SendsDmm : Type 0 where
+  -- each answer exactly where its line holds and none before it
+  pub refuses-2 : (s : State) (stamp : Stamp) (buffer : List ℕ) → (sendDmm s stamp buffer .answer ≡ NotWellFormed) ↔ (WellFormed s → ⊥)
+  pub refuses-6 : (s : State) (stamp : Stamp) (buffer : List ℕ) → (sendDmm s stamp buffer .answer ≡ BadStamp) ↔ (WellFormed s × (999999999 < stamp .nanoseconds))
+  pub refuses-3 : (s : State) (stamp : Stamp) (buffer : List ℕ)
+      → (sendDmm s stamp buffer .answer ≡ NoRoom) ↔ (WellFormed s × (stamp .nanoseconds ≤ 999999999) × (length buffer < 51))
+  pub sends : (s : State) (stamp : Stamp) (buffer : List ℕ)
+      → (sendDmm s stamp buffer .answer ≡ Sent) ↔ (WellFormed s × (stamp .nanoseconds ≤ 999999999) × (51 ≤ length buffer))
+  -- an all-zero stamp is as good as any
+  pub sends-zero : (s : State) (buffer : List ℕ) → WellFormed s → 51 ≤ length buffer → sendDmm s notGiven buffer .answer ≡ Sent
+  -- a refused call leaves the buffer as it was; what is sent is the DMM, and octets behind it stay
+  pub refused : (s : State) (stamp : Stamp) (buffer : List ℕ) → (dmmTold (sendDmm s stamp buffer .answer) .refusal ≡ 0 → ⊥) → sendDmm s stamp buffer .buffer ≡ buffer
+  pub writes : (s : State) (stamp : Stamp) (buffer : List ℕ)
+      → dmmTold (sendDmm s stamp buffer .answer) .refusal ≡ 0 → sendDmm s stamp buffer ≡ dmmEnded Sent (laid 0 (dmmOf s stamp) buffer)
+  -- it is 51 octets long, an address being 6
+  pub long : (s : State) (stamp : Stamp) → length (s .settings .losspeer) ≡ 6 → length (s .settings .own) ≡ 6 → length (dmmOf s stamp) ≡ 51
+  -- an answer is told as the paper numbers it
+  pub agree : (s : State) (stamp : Stamp) (buffer : List ℕ) → dmmTold (sendDmm s stamp buffer .answer) ≡ dmmNumbers s stamp buffer

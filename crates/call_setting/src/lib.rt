@@ -1,0 +1,94 @@
+// A new setting: the state that it starts with, or the all-zero state where it is not valid. Settings are lent for reading and the state is
+// handed out by value, so that a refusal leaves all that was handed over: a box that runs is not touched by a setting that breaks a rule.
+ghost use mathlib.Core.Path.{_≡_};
+ghost use Rattle.base_laws.specs.Lists.{onFirst};
+ghost use Rattle.state_settings.specs.Settings.{slots, settingsOf, Shaped};
+ghost use Rattle.call_setting_answer.specs.Told.{told};
+ghost use Rattle.call_setting.specs.Start.{noState, startedWith, settingOf, numbersOf};
+use base_period::hold_of;
+use base_period::ticks_of;
+use call_setting_answer::SettingAnswer;
+use state_settings::COUNT;
+use state_settings::PEERS;
+use state_settings::PERIOD;
+use state_settings::is_valid;
+use state_view::NEXT;
+use state_view::StateArrays;
+
+// What a new setting is answered, and the state that it hands out.
+pub struct Started {
+    pub answer: SettingAnswer,
+    pub state: StateArrays,
+}
+
+// Refusal 4, and a state of zeros.
+fn none() -> Started
+    ensures { λ r. ⌜ r ≡ noState ⌝ }
+{
+    Started {
+        answer: SettingAnswer::Invalid,
+        state: StateArrays {
+            set: [0; 4],
+            names: [0; 60],
+            ids: [0; PEERS],
+            timers: [0; PEERS],
+            rdi: [0; PEERS],
+            run: [0; 15],
+            totals: [0; 2],
+        },
+    }
+}
+
+// Sets the used peers' timers to the hold time; all of them where the count is larger, which no valid setting's is.
+fn start_timers(timers: &mut [u32], count: u32, hold: u32)
+    ensures { λ _. ⌜ now (timers .exit) ≡ onFirst (λ x. hold) count (now (timers .entry)) ⌝ }
+{
+    let all = timers.len();
+    let used = count as usize;
+    let mut i: usize = 0;
+    while i < used {
+        if all <= i {
+            return;
+        }
+        timers[i] = hold;
+        i += 1;
+    }
+}
+
+// The state that valid settings start with.
+fn begin(set: &[u32; 4], names: &[u8; 60], ids: &[u32; PEERS]) -> Started
+    ensures { λ r. ⌜ r ≡ startedWith (now (set .entry)) (now (names .entry)) (now (ids .entry)) ⌝ }
+{
+    let period = set[PERIOD];
+    let mut timers = [0; PEERS];
+    start_timers(&mut timers, set[COUNT], hold_of(period));
+    let mut run = [0; 15];
+    run[NEXT] = ticks_of(period);
+    Started {
+        answer: SettingAnswer::Set,
+        state: StateArrays {
+            set: *set,
+            names: *names,
+            ids: *ids,
+            timers,
+            rdi: [0; PEERS],
+            run,
+            totals: [0; 2],
+        },
+    }
+}
+
+// Takes settings as they lie: the state that they start with, or all zeros where they are not valid. It takes no old state.
+pub fn new_setting(set: &[u32; 4], names: &[u8; 60], ids: &[u32; PEERS]) -> Started
+    ensures { λ r. ⌜ r ≡ settingOf (now (set .entry)) (now (names .entry)) (now (ids .entry)) ⌝ }
+    ensures { λ r. ⌜ told (r .answer) ≡ numbersOf (settingsOf (now (set .entry)) (now (names .entry)) (now (ids .entry))) ⌝ }
+    ensures { λ _. ⌜ Shaped slots (settingsOf (now (set .entry)) (now (names .entry)) (now (ids .entry))) ⌝ }
+{
+    // a view of an array tells its length, and costs nothing
+    let _names: &[u8] = names;
+    let _ids: &[u32] = ids;
+    if !is_valid(set, names, ids) {
+        return none();
+    }
+    begin(set, names, ids)
+}

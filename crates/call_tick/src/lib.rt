@@ -1,0 +1,60 @@
+// A tick: every timer is lowered, and on the last tick of a period a CCM is sent. Where its buffer is too short the tick has not passed.
+ghost use mathlib.Core.Path.{_≡_};
+ghost use Rattle.state_view.specs.State.{lying};
+ghost use Rattle.state_places.specs.Stored.{Whole};
+ghost use Rattle.call_send_answer.specs.Told.{tickTold};
+ghost use Rattle.call_tick.specs.Tick.{ended, tickOf, numbersOf};
+use base_period::ticks_of;
+use call_send_answer::TickAnswer;
+use call_tick_ccm::write_own_ccm;
+use call_tick_lower::pass_tick;
+use state_settings::PEERS;
+use state_settings::PERIOD;
+use state_view::NEXT;
+use state_well_formed::is_well_formed;
+
+// How long a CCM is.
+const CCM_LENGTH: usize = 89;
+
+// Lets a tick pass, and on the last of a period writes a CCM with the conditions that stand after it.
+pub fn tick(
+    set: &[u32; 4],
+    names: &[u8; 60],
+    ids: &[u32; PEERS],
+    timers: &mut [u32; PEERS],
+    rdi: &[u32; PEERS],
+    run: &mut [u32; 15],
+    totals: &[i64; 2],
+    out: &mut [u8],
+) -> TickAnswer
+    ensures { λ r. ⌜ (ended r (lying (set .entry) (names .entry) (ids .entry) (timers .exit) (rdi .entry) (run .exit) (totals .entry)) (now (out .exit)) ≡ tickOf (lying (set .entry) (names .entry) (ids .entry) (timers .entry) (rdi .entry) (run .entry) (totals .entry)) (now (out .entry))) × (tickTold r ≡ numbersOf (lying (set .entry) (names .entry) (ids .entry) (timers .entry) (rdi .entry) (run .entry) (totals .entry)) (now (out .entry))) ⌝ }
+    ensures { λ _. ⌜ Whole (now (run .exit)) (now (totals .entry)) ⌝ }
+{
+    // a view of an array tells its length, and costs nothing
+    let _words: &[u32] = run;
+    let _both: &[i64] = totals;
+    if !is_well_formed(set, names, ids, timers, rdi, run, totals) {
+        return TickAnswer::NotWellFormed;
+    }
+    let left = run[NEXT];
+    if 1 < left {
+        pass_tick(set, names, ids, timers, rdi, run, totals, left - 1);
+        return TickAnswer::Quiet;
+    }
+    if out.len() < CCM_LENGTH {
+        return TickAnswer::NoRoom;
+    }
+    pass_tick(
+        set,
+        names,
+        ids,
+        timers,
+        rdi,
+        run,
+        totals,
+        ticks_of(set[PERIOD]),
+    );
+    // the answer is known: there is room
+    let _written = write_own_ccm(set, names, ids, timers, rdi, run, totals, out);
+    TickAnswer::Sent
+}

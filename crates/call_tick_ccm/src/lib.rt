@@ -1,0 +1,45 @@
+// The CCM that a state sends: our own address, MEG ID and MEP ID, and RDI where any condition stands.
+ghost use mathlib.Core.Path.{_≡_};
+ghost use lib.ListN.{length};
+ghost use Rattle.state_view.specs.State.{lying};
+ghost use Rattle.message_parts.specs.Buffer.{writtenOf, bufferOf, told, numbersOf};
+ghost use Rattle.call_tick_ccm.specs.Ccm.{ccmOf};
+use message_ccm::CcmValues;
+use message_ccm::write_ccm;
+use message_parts::parts::Written;
+use state_settings::LEVEL;
+use state_settings::MEP;
+use state_settings::PEERS;
+use state_settings::PERIOD;
+use state_standing::any_stands;
+use state_standing::flag_of;
+
+// Writes the CCM of a state.
+pub fn write_own_ccm(
+    set: &[u32; 4],
+    names: &[u8; 60],
+    ids: &[u32; PEERS],
+    timers: &[u32; PEERS],
+    rdi: &[u32; PEERS],
+    run: &[u32; 15],
+    totals: &[i64; 2],
+    out: &mut [u8],
+) -> Written
+    ensures { λ r. ⌜ (r ≡ writtenOf (ccmOf (lying (set .entry) (names .entry) (ids .entry) (timers .entry) (rdi .entry) (run .entry) (totals .entry))) (now (out .entry))) × (told r ≡ numbersOf (ccmOf (lying (set .entry) (names .entry) (ids .entry) (timers .entry) (rdi .entry) (run .entry) (totals .entry))) (now (out .entry))) ⌝ }
+    ensures { λ _. ⌜ (now (out .exit) ≡ bufferOf (ccmOf (lying (set .entry) (names .entry) (ids .entry) (timers .entry) (rdi .entry) (run .entry) (totals .entry))) (now (out .entry))) × (length (ccmOf (lying (set .entry) (names .entry) (ids .entry) (timers .entry) (rdi .entry) (run .entry) (totals .entry))) ≡ 89) ⌝ }
+{
+    let stands = any_stands(set, names, ids, timers, rdi, run, totals);
+    let ccm = CcmValues {
+        level: set[LEVEL],
+        rdi: flag_of(stands),
+        period: set[PERIOD],
+        sequence: 0,
+        mep: set[MEP],
+        txfcf: 0,
+        rxfcb: 0,
+        txfcb: 0,
+    };
+    // a copy, which no caller's buffer can lie over: the MEG ID is then written by vector instructions and not octet by octet
+    let copied = *names;
+    write_ccm(out, &copied, ccm)
+}

@@ -1,0 +1,68 @@
+// Timers: each of them one tick later, in place.
+ghost use mathlib.Core.Path.{_≡_};
+ghost use mathlib.Core.List.{map};
+ghost use Prim.Native.Nat.{_-_};
+ghost use Rattle.base_laws.specs.Lists.{onFirst};
+ghost use Rattle.state_view.specs.State.{lying};
+ghost use Rattle.state_view.specs.Changed.{next, put, lowered};
+ghost use Rattle.state_places.specs.Stored.{Whole};
+use state_settings::PEERS;
+use state_view::NEXT;
+
+// How many running words are timers: they stand first.
+const TIMERS: usize = 6;
+
+// A timer one tick later.
+fn later(timer: u32) -> u32
+    ensures { λ r. ⌜ r ≡ timer - 1 ⌝ }
+{
+    if timer == 0 {
+        return 0;
+    }
+    timer - 1
+}
+
+// Lowers each of these timers.
+fn lower_peers(timers: &mut [u32])
+    ensures { λ _. ⌜ now (timers .exit) ≡ map (λ t. t - 1) (now (timers .entry)) ⌝ }
+{
+    let n = timers.len();
+    let mut i: usize = 0;
+    while i < n {
+        timers[i] = later(timers[i]);
+        i += 1;
+    }
+}
+
+// Lowers the timers among the running words.
+fn lower_running(run: &mut [u32; 15])
+    ensures { λ _. ⌜ now (run .exit) ≡ onFirst (λ t. t - 1) 6 (now (run .entry)) ⌝ }
+{
+    let mut i: usize = 0;
+    while i < TIMERS {
+        run[i] = later(run[i]);
+        i += 1;
+    }
+}
+
+// Lets a tick pass: every timer is lowered, and so many ticks are left to the next CCM.
+pub fn pass_tick(
+    set: &[u32; 4],
+    names: &[u8; 60],
+    ids: &[u32; PEERS],
+    timers: &mut [u32; PEERS],
+    rdi: &[u32; PEERS],
+    run: &mut [u32; 15],
+    totals: &[i64; 2],
+    left: u32,
+)
+    ensures { λ _. ⌜ lying (set .entry) (names .entry) (ids .entry) (timers .exit) (rdi .entry) (run .exit) (totals .entry) ≡ put next left (lowered (lying (set .entry) (names .entry) (ids .entry) (timers .entry) (rdi .entry) (run .entry) (totals .entry))) ⌝ }
+    ensures { λ _. ⌜ Whole (now (run .exit)) (now (totals .entry)) ⌝ }
+{
+    // a view of an array tells its length, and costs nothing
+    let _words: &[u32] = run;
+    let _both: &[i64] = totals;
+    lower_peers(timers);
+    lower_running(run);
+    run[NEXT] = left;
+}

@@ -1,0 +1,12 @@
+-- Two results that a contract allows are equal: of a returned part, its octets and its place. Stated over `Reads.Post`, which the check reads
+-- off the source's own clauses. Assumes nothing.
+use mathlib.Core.Path.{_≡_, sym, _∙_}
+use denote.Ref.{now, ptr}
+use Rattle.frame_addresses.proofs.destination.Reads as destination
+use Rattle.frame_addresses.proofs.source.Reads as source
+
+pub destination-one : (κs : _) (a : _) (r r′ : _) (s s′ : _) → destination.Post κs a r s → destination.Post κs a r′ s′ → (now r ≡ now r′) × (ptr r ≡ ptr r′)
+destination-one κs a r r′ s s′ p q = (p .0 ∙ sym (q .0), p .1 ∙ sym (q .1))
+
+pub source-one : (κs : _) (a : _) (r r′ : _) (s s′ : _) → source.Post κs a r s → source.Post κs a r′ s′ → (now r ≡ now r′) × (ptr r ≡ ptr r′)
+source-one κs a r r′ s s′ p q = (p .0 ∙ sym (q .0), p .1 ∙ sym (q .1))

@@ -1,0 +1,51 @@
+// What stands before the TLVs of a frame: refusal 1, D1, D3 and D4, or where the TLVs start. It asks nothing of its caller.
+ghost use mathlib.Core.Path.{_≡_};
+ghost use Rattle.frame_judge.specs.Judge.{judgePdu, judge};
+use base_octets::numbers::read_big;
+use frame_head::head::HEAD_LENGTH;
+use frame_head::head::LONGEST;
+use frame_opcodes::is_known;
+use frame_opcodes::rule_of;
+use frame_reader_answer::Bad;
+
+// What stands before the TLVs: a reason, or the place of the PDU where they start.
+pub enum Head {
+    Bad(Bad),
+    Tlvs(usize),
+}
+
+// What stands before the TLVs of a PDU: D1, D3, D4, or where they start, by the frame's own offset.
+fn judge_pdu(pdu: &[u8]) -> Head
+    ensures { λ r. ⌜ r ≡ judgePdu (now (pdu .entry)) ⌝ }
+{
+    if pdu.len() < 4 {
+        return Head::Bad(Bad::Short);
+    }
+    let rule = rule_of(pdu[1]);
+    let handler = rule.handler;
+    if !is_known(handler) {
+        return Head::Bad(Bad::Opcode);
+    }
+    let least = rule.least;
+    let offset = pdu[3] as usize;
+    if offset < least {
+        return Head::Bad(Bad::Offset);
+    }
+    Head::Tlvs(4 + offset)
+}
+
+// The same of a whole frame: refusal 1, D3 for a service frame, or what its PDU says.
+pub fn judge_frame(frame: &[u8]) -> Head
+    ensures { λ r. ⌜ r ≡ judge (now (frame .entry)) ⌝ }
+{
+    if frame.len() < HEAD_LENGTH {
+        return Head::Bad(Bad::Length);
+    }
+    if LONGEST < frame.len() {
+        return Head::Bad(Bad::Length);
+    }
+    if read_big(frame, 12, 2) != 0x8902 {
+        return Head::Bad(Bad::Opcode);
+    }
+    judge_pdu(&frame[HEAD_LENGTH..])
+}

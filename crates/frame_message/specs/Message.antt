@@ -1,0 +1,49 @@
+-- Which message a frame is. The paper, "What is in a PDU": the table; rule 4, D7: a CCM of period code 0, an AIS or LCK of a code other than 4
+-- and 6. Definitions only.
+use Prim.Native.Nat.{ℕ, _%_}
+use mathlib.Core.Bool.{Bool, true, _||_, not, cond}
+use mathlib.Core.List.{List}
+use lib.Dec.{eqb}
+use Rattle.frame_opcodes.specs.declared.Handler.{Handler}
+use Rattle.frame_opcodes.specs.declared.Handler.the-variants.{Nobody, ReaderOnly, Continuity, Loopback, Alarm, Lock, LossReply, LossRequest, DelayReply, DelayRequest}
+use Rattle.frame_opcodes.specs.Opcodes.{ruleOf}
+use Rattle.frame_reader_answer.specs.declared.TlvAnswer.{TlvAnswer}
+use Rattle.frame_reader_answer.specs.declared.TlvAnswer.the-variants as tlv
+use Rattle.frame_head.specs.Head.{pduOf, opcodeOf, flagsOf}
+use Rattle.frame_reader.specs.Reader.{answerOf}
+use Rattle.frame_message_answer.specs.declared.MessageAnswer.{MessageAnswer}
+use Rattle.frame_message_answer.specs.declared.MessageAnswer.the-variants.{Message, PeriodCode, Bad}
+
+-- the low three bits of the flags
+abbrev pub periodCode : ℕ → ℕ
+periodCode flags = flags % 8
+
+-- 4 is one second, 6 one minute
+abbrev pub alarmCode : ℕ → Bool
+alarmCode code = eqb code 4 || eqb code 6
+
+-- which codes a message may have; those without a period are not asked
+abbrev pub codeGood : Handler → ℕ → Bool
+codeGood Nobody code = true
+codeGood ReaderOnly code = true
+codeGood Continuity code = not (eqb code 0)
+codeGood Loopback code = true
+codeGood Alarm code = alarmCode code
+codeGood Lock code = alarmCode code
+codeGood LossReply code = true
+codeGood LossRequest code = true
+codeGood DelayReply code = true
+codeGood DelayRequest code = true
+
+-- D7, or who handles it
+unfoldable pub judgedOf : ℕ → ℕ → MessageAnswer
+judgedOf opcode flags = cond (codeGood (ruleOf opcode .handler) (periodCode flags)) (Message (ruleOf opcode .handler)) PeriodCode
+
+-- the reader's reason, or what is behind it
+abbrev pub unlessBad : TlvAnswer → MessageAnswer → MessageAnswer
+unlessBad (tlv.Bad b) message = Bad b
+unlessBad tlv.NoSuch message = message
+unlessBad tlv.Value message = message
+
+unfoldable pub messageOf : List ℕ → MessageAnswer
+messageOf f = unlessBad (answerOf f 0) (judgedOf (opcodeOf (pduOf f)) (flagsOf (pduOf f)))

@@ -1,0 +1,50 @@
+-- What a frame is told in the paper's numbers: one chain in the paper's order. Definitions and statements only.
+use Prim.Native.Nat.{ℕ}
+use mathlib.Core.Path.{_≡_}
+use mathlib.Core.List.{List, [], _∷_}
+use mathlib.Core.Bool.{Bool, true, false, not}
+use lib.Dec.{ltb}
+use lib.ListN.{length}
+use Rattle.base_laws.specs.Tests.{choose}
+use Rattle.frame_opcodes.specs.Opcodes.{ruleOf, known}
+use Rattle.frame_reader_answer.specs.declared.Bad.{Bad}
+use Rattle.frame_tlvs.specs.declared.Place.{Place}
+use Rattle.frame_tlvs.specs.declared.Place.the-variants as place
+use Rattle.frame_reader_answer.specs.declared.TlvAnswer.{TlvAnswer}
+use Rattle.frame_reader_answer.specs.declared.TlvAnswer.the-variants as answer
+use Rattle.frame_reader_answer.specs.declared.TlvTold.{TlvTold}
+use Rattle.frame_head.specs.Head.{isOam, lengthGood, pduOf, opcodeOf, offsetOf, startOf}
+use Rattle.frame_tlvs.specs.Tlvs.{walkFrom}
+use Rattle.frame_seek.specs.Seek.{isCut}
+use Rattle.frame_reader.specs.Reader.{answerOf}
+use Rattle.frame_reader_answer.specs.Told.{numbers, told}
+
+abbrev pub isFound : Place → Bool
+isFound (place.Found start len) = true
+isFound (place.End at) = false
+isFound (place.Cut at) = false
+
+-- in the paper's order: 1, D3 for a service frame, D1, D3, D4, D5, then a value or none
+unfoldable pub numbersOf : List ℕ → ℕ → TlvTold
+numbersOf f kind =
+    choose (
+    (not (lengthGood f), numbers 1 0 0)
+    ∷ (not (isOam f), numbers 0 3 0)
+    ∷ (ltb (length (pduOf f)) 4, numbers 0 1 0)
+    ∷ (not (known (ruleOf (opcodeOf (pduOf f)) .handler)), numbers 0 3 0)
+    ∷ (ltb (offsetOf (pduOf f)) (ruleOf (opcodeOf (pduOf f)) .least), numbers 0 4 0)
+    ∷ (isCut (walkFrom 0 (startOf (pduOf f)) (pduOf f)), numbers 0 5 0)
+    ∷ (isFound (walkFrom kind (startOf (pduOf f)) (pduOf f)), numbers 0 0 1)
+    ∷ [])
+    (numbers 0 0 0)
+
+-- what is said of every frame, and of every answer
+pub record ReaderNumbers : Type 0 where
+  -- the staged search tells the numbers of the one chain
+  pub agree : (f : List ℕ) (kind : ℕ) → told (answerOf f kind) ≡ numbersOf f kind
+  -- no two answers are told alike
+  pub apart : (a b : TlvAnswer) → told a ≡ told b → a ≡ b
+  -- type 0 is never a value
+  pub never : (f : List ℕ) → told (answerOf f 0) .value ≡ 0
+  -- beside a refusal or a drop no value is told
+  pub bare : (b : Bad) → told (answer.Bad b) .value ≡ 0

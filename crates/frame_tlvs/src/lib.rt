@@ -1,0 +1,42 @@
+// The TLVs of a PDU: where a walk over them stops. It knows of no frame, no opcode and no state, and asks nothing of its caller.
+ghost use mathlib.Core.Path.{_≡_};
+ghost use Rattle.frame_tlvs.specs.Tlvs.{walkFrom, Inside};
+use base_octets::numbers::read_big;
+
+// Where a walk over the TLVs stops: at type 0, at the wanted type (its value's start and length), or at a cut.
+pub enum Place {
+    End(usize),
+    Found { start: usize, len: usize },
+    Cut(usize),
+}
+
+// Walks over the TLVs of a PDU from a place on.
+pub fn walk(pdu: &[u8], kind: u8, start: usize) -> Place
+    ensures { λ r. ⌜ (r ≡ walkFrom kind start (now (pdu .entry))) × Inside (now (pdu .entry)) r ⌝ }
+{
+    let mut at = start;
+    let place = loop {
+        if pdu.len() <= at {
+            break Place::Cut(at);
+        }
+        let t = pdu[at];
+        if t == 0 {
+            break Place::End(at);
+        }
+        if pdu.len() - at < 3 {
+            break Place::Cut(at);
+        }
+        let n = read_big(pdu, at + 1, 2) as usize;
+        if pdu.len() - at - 3 < n {
+            break Place::Cut(at);
+        }
+        if t == kind {
+            break Place::Found {
+                start: at + 3,
+                len: n,
+            };
+        }
+        at = at + 3 + n;
+    };
+    place
+}

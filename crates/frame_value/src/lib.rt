@@ -1,0 +1,58 @@
+// What the value of a TLV holds: the octets of a data TLV, the zeros of a test TLV. The value is the part of the frame that the reader hands
+// back; nothing is copied.
+ghost use mathlib.Core.Path.{_≡_};
+ghost use Rattle.frame_value_answer.specs.Told.{told};
+ghost use Rattle.frame_value.specs.Values.{zeroPattern, outcomeOf, sameData, zeroTest};
+ghost use Rattle.frame_value.specs.Told.{sameNumbers, zeroNumbers};
+use base_compare::same_octets;
+use frame_reader::tlv_answer;
+use frame_reader::tlv_value;
+use frame_reader_answer::TlvAnswer;
+use frame_value_answer::ValueAnswer;
+
+// Tells whether a test TLV's value is pattern type 0, a null signal without check sequence, and zeros behind it.
+fn zero_pattern(value: &[u8]) -> bool
+    ensures { λ r. ⌜ r ≡ zeroPattern (now (value .entry)) ⌝ }
+{
+    let mut i: usize = 0;
+    while i < value.len() {
+        if value[i] != 0 {
+            return false;
+        }
+        i += 1;
+    }
+    0 < value.len()
+}
+
+// What the reader says of a frame, and of the value where there is one.
+fn outcome(answer: TlvAnswer, holds: bool) -> ValueAnswer
+    ensures { λ r. ⌜ r ≡ outcomeOf answer holds ⌝ }
+{
+    match answer {
+        TlvAnswer::Value => {
+            if holds {
+                ValueAnswer::Holds
+            } else {
+                ValueAnswer::Differs
+            }
+        }
+        TlvAnswer::NoSuch => ValueAnswer::NoSuch,
+        TlvAnswer::Bad(b) => ValueAnswer::Bad(b),
+    }
+}
+
+// Tells whether the value of the frame's data TLV is these octets.
+pub fn same_data(frame: &[u8], octets: &[u8]) -> ValueAnswer
+    ensures { λ r. ⌜ (r ≡ sameData (now (frame .entry)) (now (octets .entry))) × (told r ≡ sameNumbers (now (frame .entry)) (now (octets .entry))) ⌝ }
+{
+    let same = same_octets(tlv_value(frame, 3), octets);
+    outcome(tlv_answer(frame, 3), same)
+}
+
+// Tells whether the frame's test TLV holds pattern type 0 and zeros only.
+pub fn all_zero_test(frame: &[u8]) -> ValueAnswer
+    ensures { λ r. ⌜ (r ≡ zeroTest (now (frame .entry))) × (told r ≡ zeroNumbers (now (frame .entry))) ⌝ }
+{
+    let zeros = zero_pattern(tlv_value(frame, 32));
+    outcome(tlv_answer(frame, 32), zeros)
+}

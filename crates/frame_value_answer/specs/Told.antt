@@ -1,0 +1,21 @@
+-- The paper's numbers for each case of an answer on a value. Definitions and the statement only.
+use Prim.Native.Nat.{ℕ}
+use mathlib.Core.Path.{_≡_}
+use Rattle.frame_reader_answer.specs.Told.{badOf}
+use Rattle.frame_value_answer.specs.declared.ValueAnswer.{ValueAnswer}
+use Rattle.frame_value_answer.specs.declared.ValueAnswer.the-variants.{Holds, Differs, NoSuch, Bad}
+use Rattle.frame_value_answer.specs.declared.ValueTold.{ValueTold}
+
+abbrev pub numbers : ℕ → ℕ → ℕ → ℕ → ValueTold
+numbers refusal drop value holds = record { refusal = refusal; drop = drop; value = value; holds = holds }
+
+unfoldable pub told : ValueAnswer → ValueTold
+told Holds = numbers 0 0 1 1
+told Differs = numbers 0 0 1 0
+told NoSuch = numbers 0 0 0 0
+told (Bad b) = numbers (badOf b .refusal) (badOf b .drop) 0 0
+
+-- what is said of every answer
+pub record ValueNumbers : Type 0 where
+  -- no two are told alike
+  pub apart : (a b : ValueAnswer) → told a ≡ told b → a ≡ b

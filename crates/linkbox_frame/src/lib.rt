@@ -1,0 +1,64 @@
+// The C boundary, a frame to a box: on the arrays that hold the state, for firmware in C or Rust (host/linkbox). It calls the function of its room and
+// tells its answer in the paper's numbers.
+// Any content of the memory is a value. What a caller sees to is that the pointers are to memory of these sizes, and that what is written overlaps nothing
+// else that is handed over.
+ghost use mathlib.Core.Path.{_≡_};
+ghost use Rattle.state_view.specs.State.{lying};
+ghost use Rattle.state_places.specs.Stored.{Whole};
+ghost use Rattle.base_stamp.specs.Stamps.{Wire};
+ghost use Rattle.receive_frame.specs.Frame.{frameOf};
+ghost use Rattle.receive_frame.specs.Numbers.{numbersOf};
+ghost use Rattle.linkbox_frame.specs.Sides.{sideOf};
+use base_stamp::Stamp;
+use receive_answer::FrameTold;
+use receive_class::Side;
+use state_settings::PEERS;
+
+// The side that a number of C's names.
+fn side_of(number: u32) -> Side
+    ensures { λ r. ⌜ r ≡ sideOf number ⌝ }
+{
+    if number == 0 {
+        Side::Active
+    } else {
+        Side::Passive
+    }
+}
+
+// A frame from a side; a reply is written into the front of the buffer.
+#[no_mangle]
+pub extern "C" fn linkbox_frame(
+    set: &[u32; 4],
+    names: &[u8; 60],
+    ids: &[u32; PEERS],
+    timers: &mut [u32; PEERS],
+    rdi: &mut [u32; PEERS],
+    run: &mut [u32; 15],
+    totals: &mut [i64; 2],
+    side: u32,
+    frame: &[u8],
+    receive: Stamp,
+    transmit: Stamp,
+    out: &mut [u8],
+) -> FrameTold
+    ensures { λ r. ⌜ r ≡ numbersOf (lying (set .entry) (names .entry) (ids .entry) (timers .entry) (rdi .entry) (run .entry) (totals .entry)) (sideOf side) (now (frame .entry)) receive transmit (now (out .entry)) ⌝ }
+    ensures { λ _. ⌜ (lying (set .entry) (names .entry) (ids .entry) (timers .exit) (rdi .exit) (run .exit) (totals .exit) ≡ frameOf (lying (set .entry) (names .entry) (ids .entry) (timers .entry) (rdi .entry) (run .entry) (totals .entry)) (sideOf side) (now (frame .entry)) receive transmit (now (out .entry)) .state) × (now (out .exit) ≡ frameOf (lying (set .entry) (names .entry) (ids .entry) (timers .entry) (rdi .entry) (run .entry) (totals .entry)) (sideOf side) (now (frame .entry)) receive transmit (now (out .entry)) .buffer) ⌝ }
+    ensures { λ _. ⌜ Whole (now (run .exit)) (now (totals .exit)) ⌝ }
+    ensures { λ _. ⌜ Wire receive × Wire transmit ⌝ }
+{
+    let answer = receive_frame::on_frame(
+        set,
+        names,
+        ids,
+        timers,
+        rdi,
+        run,
+        totals,
+        side_of(side),
+        frame,
+        receive,
+        transmit,
+        out,
+    );
+    receive_answer::tell(answer)
+}

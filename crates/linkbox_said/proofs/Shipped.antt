@@ -1,0 +1,181 @@
+-- The statement of specs/Shipped.antt on the calls on a box. One law for all: what tells the outcome of our box tells the paper's. Assumes nothing.
+use Prim.Native.Nat.{ℕ}
+use mathlib.Core.Path.{_≡_, refl, sym, ap, ap₂, subst, _∙_}
+use mathlib.Core.Bool.{Bool, true, false, cond}
+use mathlib.Core.List.{List, []}
+use mathlib.Core.Logic.{⊎-elim}
+use lib.Dec.{eqb}
+use borrow.Author.Tests.{eqb-true}
+use Rattle.base_laws.proofs.Tests.{known}
+use denote.Ref.{now}
+use Rattle.state_settings.specs.Settings.{Settings, settingsOf}
+use Rattle.base_stamp.specs.declared.Stamp.{Stamp}
+use Rattle.state_view.specs.State.{State, shown}
+use Rattle.state_view.specs.WellFormed.{wellFormed}
+use Rattle.receive_answer.specs.declared.FrameTold.{FrameTold}
+use Rattle.receive_class.specs.declared.Side.{Side}
+use Rattle.receive_class.specs.declared.Side.the-variants as side
+use Rattle.call_clear.specs.declared.ClearTold.{ClearTold}
+use Rattle.call_clear.proofs.Clears.{clears}
+use Rattle.call_conditions.specs.declared.ConditionsTold.{ConditionsTold}
+use Rattle.call_conditions.specs.Conditions.{noConditions, conditionsOf}
+use Rattle.call_setting.specs.Start.{afterSetting, answerOf, numbersOf as numbers}
+use Rattle.call_setting.proofs.Starts.{starts}
+use Rattle.call_setting_answer.specs.declared.SettingTold.{SettingTold}
+use Rattle.call_setting_answer.specs.Told as Setting
+use Rattle.message_parts.specs.declared.parts.WrittenTold.{WrittenTold}
+use Rattle.call_tick.proofs.Ticks.{ticks}
+use Rattle.call_send_lmm.proofs.Lmm.{sends-lmm}
+use Rattle.call_send_dmm.proofs.Dmm.{sends-dmm}
+use Rattle.receive_carry_out.specs.CarryOut.{Framed}
+use Rattle.receive_frame.specs.Frame.{frameOf}
+use Rattle.receive_frame.specs.Numbers.{numbersOf}
+use Rattle.receive_frame.proofs.Numbers.{frames-told}
+use Rattle.linkbox_frame.specs.Sides as C
+use Rattle.linkbox_state.specs.declared.NewBox.{NewBox}
+use Rattle.linkbox_state.specs.NewBox.{newBox}
+use Rattle.paper_said.specs.Calls as call
+use Rattle.paper_said.specs.Calls.{Call, Arrival, Answer, HandedOut, Outcome, OnWire}
+use Rattle.paper_said.specs.Said.{Said}
+use Rattle.paper_said.specs.Words.{sideOf, takenOver, frameAnswer, conditionsAnswer}
+use Rattle.paper_said.specs.Ours.{ours}
+use Rattle.paper_said.proofs.Follows.{ours-follows}
+use Rattle.paper_said.specs.Told as Told
+use Rattle.paper_said.specs.Told.{Numbers, counted, frameNumbers}
+use Rattle.paper_said.proofs.Told.{told-alike}
+use Rattle.paper_said.proofs.Tied.{from-arrays, taken-over}
+use Rattle.linkbox_said.specs.Heard.{plainSays, frameSays, tickSays, sendSays}
+use Rattle.linkbox_said.specs.Lying.{stateIn, behind, sideBy}
+use Rattle.linkbox_said.specs.Shipped.{Tells, Shipped}
+use Rattle.linkbox_said.proofs.Heard.{setting-says, clear-says, frame-says, tick-says, lmm-says, dmm-says}
+
+-- what tells the outcome of our box tells the paper's
+tied : {x : Answer} {n : Numbers} {z : State} {b : List ℕ} {h : HandedOut} (s : State) (c : Call) (o : Outcome) → OnWire c → Said s c o
+    → Tells x n z b h (ours s c) → Tells x n z b h o
+tied {x} {n} {z} {b} {h} s c o w q t = subst (Tells x n z b h) (ours-follows .box .follows s c o w q) t
+
+-- ── a frame ──
+
+side-is : (b : Bool) → sideOf (cond b call.active call.passive) ≡ cond b side.Active side.Passive
+side-is true = refl
+side-is false = refl
+
+module _ (s : State) (n : ℕ) (f : List ℕ) (receive transmit : Stamp) (buffer : List ℕ) where
+  abbrev arrival : Arrival
+  arrival = record { side = sideBy n; octets = f; receive = receive; transmit = transmit; buffer = buffer }
+
+  abbrev from : Side → Framed
+  from d = frameOf s d f receive transmit buffer
+
+  frame-tells : (r : FrameTold) (z : State) (b : List ℕ) → r ≡ numbersOf s (C.sideOf n) f receive transmit buffer → z ≡ from (C.sideOf n) .state
+      → b ≡ from (C.sideOf n) .buffer → Tells (frameSays r) (frameNumbers r) z b call.nothing (ours s (call.frame arrival))
+  frame-tells r z b e f g =
+      let d : C.sideOf n ≡ sideOf (sideBy n) = sym (side-is (eqb n 0)) in
+      let told = e ∙ sym (frames-told .agree s (C.sideOf n) _ receive transmit buffer) in
+      record {
+        answer = ap frameSays told ∙ frame-says _ ∙ ap (λ (x : Side). frameAnswer (from x .answer)) d;
+        numbers = ap frameNumbers told ∙ told-alike .frame (from (C.sideOf n) .answer) ∙ ap (λ (x : Side). Told.numbersOf (frameAnswer (from x .answer))) d;
+        state = f ∙ ap (λ (x : Side). from x .state) d;
+        buffer = g ∙ ap (λ (x : Side). from x .buffer) d;
+        out = refl;
+      }
+
+-- ── a new setting ──
+
+module _ (words names ids : List ℕ) (before : State) (r : NewBox) (e : r ≡ newBox words names ids) where
+  abbrev t : Settings
+  t = settingsOf words names ids
+
+  told-is : r .refusal ≡ numbers t .refusal
+  told-is = ap (λ (x : NewBox). x .refusal) e
+
+  answer-is : r .refusal ≡ Setting.told (answerOf t) .refusal
+  answer-is = told-is ∙ ap (λ (x : SettingTold). x .refusal) (sym (starts .agree t))
+
+  out-is : shown (r .state) ≡ afterSetting t
+  out-is = ap (λ (x : NewBox). shown (x .state)) e ∙ starts .hands-out words names ids
+
+  setting-tells : Tells (plainSays (r .refusal)) (counted (r .refusal) 0 0) (takenOver before (r .refusal) (shown (r .state))) [] (call.a-state (shown (r .state)))
+      (ours before (call.new-setting t))
+  setting-tells = record {
+    answer = ap plainSays answer-is ∙ setting-says (answerOf t);
+    numbers = ap (λ (n : ℕ). counted n 0 0) answer-is ∙ told-alike .setting (answerOf t);
+    state = ap₂ (λ (n : ℕ) (x : State). takenOver before n x) told-is out-is ∙ taken-over before t;
+    buffer = refl;
+    out = ap call.a-state out-is;
+  }
+
+-- ── conditions ──
+
+refused-is : (t : ConditionsTold) → counted (t .refusal) 0 0 ≡ Told.numbersOf (conditionsAnswer t)
+refused-is t =
+    ⊎-elim
+    (λ (e : eqb (t .refusal) 0 ≡ true). rw e (ap (λ (n : ℕ). counted n 0 0) (eqb-true (t .refusal) 0 e)))
+    (λ (e : eqb (t .refusal) 0 ≡ false). rw e refl)
+    (known (eqb (t .refusal) 0))
+
+bare : (s : State) (r : ConditionsTold) → r ≡ conditionsOf s → (r .refusal ≡ 0 → ⊥) → r .conditions ≡ noConditions
+unfolding conditionsOf
+bare s r e n =
+    ⊎-elim
+    (λ (w : wellFormed s ≡ true). absurd (n (ap (λ (x : ConditionsTold). x .refusal) e ∙ rw w refl)))
+    (λ (w : wellFormed s ≡ false). ap (λ (x : ConditionsTold). x .conditions) e ∙ rw w refl)
+    (known (wellFormed s))
+
+-- ── all of them ──
+
+pub shipped : Shipped
+shipped = record {
+  new-setting = λ κs a r s p w before o q.
+      tied before _ o (from-arrays (now (a .0)) (now (a .1 .0)) (now (a .1 .1 .0)) (p .1) w) q (setting-tells _ _ _ before r (p .0));
+  frame = λ κs a r s p w o q.
+      let x = behind a in
+      tied _ _ o (record { octets = w; receive = p .1 .1 .1 .0; transmit = p .1 .1 .1 .1 }) q
+      (frame-tells (stateIn a) (x .0) (now (x .1 .0)) (x .1 .1 .0) (x .1 .1 .1 .0) (now (x .1 .1 .1 .1 .0)) r _ _ (p .0) (p .1 .0 .0) (p .1 .0 .1));
+  tick = λ κs a r s p o q.
+      let e = p .0 ∙ sym (ticks .agree _ _) in
+      tied _ _ o tt q (record {
+        answer = ap tickSays e ∙ tick-says _;
+        numbers = ap (λ (x : WrittenTold). counted (x .refusal) 0 (x .length)) e ∙ told-alike .tick _;
+        state = p .1 .0 .0;
+        buffer = p .1 .0 .1;
+        out = refl;
+      });
+  clear = λ κs a r s p o q.
+      let e = p .0 ∙ ap (λ (x : ClearTold). x .refusal) (sym (clears .agree _)) in
+      tied _ _ o tt q (record {
+        answer = ap plainSays e ∙ clear-says _;
+        numbers = ap (λ (n : ℕ). counted n 0 0) e ∙ told-alike .clear _;
+        state = p .1 .0;
+        buffer = refl;
+        out = refl;
+      });
+  send-lmm = λ κs a r s p o q.
+      let e = p .0 ∙ sym (sends-lmm .agree _ _) in
+      tied _ _ o tt q (record {
+        answer = ap sendSays e ∙ lmm-says _;
+        numbers = ap (λ (x : WrittenTold). counted (x .refusal) 0 (x .length)) e ∙ told-alike .lmm _;
+        state = refl;
+        buffer = p .1;
+        out = refl;
+      });
+  send-dmm = λ κs a r s p o q.
+      let e = p .0 .0 ∙ sym (sends-dmm .agree _ _ _) in
+      tied _ _ o (p .1) q (record {
+        answer = ap sendSays e ∙ dmm-says _;
+        numbers = ap (λ (x : WrittenTold). counted (x .refusal) 0 (x .length)) e ∙ told-alike .dmm _;
+        state = refl;
+        buffer = p .0 .1;
+        out = refl;
+      });
+  conditions = λ κs a r s p o q. (
+    tied _ _ o tt q (record {
+      answer = ap conditionsAnswer p;
+      numbers = refused-is r ∙ ap (λ (x : ConditionsTold). Told.numbersOf (conditionsAnswer x)) p;
+      state = refl;
+      buffer = refl;
+      out = refl;
+    }),
+    bare _ r p,
+  );
+}

@@ -1,0 +1,91 @@
+-- What ships is what the paper says: for each function that C calls, whatever its contract allows, as the check reads it off the source
+-- (`Reads.Post`: the arguments a, the result r, the memory s afterwards), is the paper's outcome. Statements only.
+use Prim.Native.Nat.{ℕ}
+use mathlib.Core.Path.{_≡_}
+use mathlib.Core.List.{List, []}
+use denote.Ref.{now}
+use Rattle.base_octets.specs.Numbers.{Octets}
+use Rattle.state_settings.specs.Settings.{settingsOf}
+use Rattle.loss_lent.specs.Lent.{Lent}
+use Rattle.loss_lent.specs.Said.{FollowsLent}
+use Rattle.state_view.specs.State.{State, shown}
+use Rattle.call_conditions.specs.Conditions.{noConditions}
+use Rattle.stored_settings.specs.SettingsRecord.{refusedRead}
+use Rattle.paper_said.specs.Calls as call
+use Rattle.paper_said.specs.Calls.{Answer, HandedOut, nothing, Outcome}
+use Rattle.paper_said.specs.Said.{Said}
+use Rattle.paper_said.specs.Words.{takenOver, conditionsAnswer}
+use Rattle.paper_said.specs.Told.{Numbers, counted, numbersOf, frameNumbers}
+use Rattle.paper_records.specs.Records as stored
+use Rattle.paper_records.specs.Records.{RecordLeft, leaving, RecordSaid}
+use Rattle.paper_reader.specs.Reader.{ReaderTells, ReaderSaid}
+use Rattle.linkbox_state.proofs.linkbox_new_setting.Reads as new-setting
+use Rattle.linkbox_state.proofs.linkbox_clear.Reads as clear
+use Rattle.linkbox_state.proofs.linkbox_conditions.Reads as conditions
+use Rattle.linkbox_frame.proofs.linkbox_frame.Reads as frame
+use Rattle.linkbox_send.proofs.linkbox_tick.Reads as tick
+use Rattle.linkbox_send.proofs.linkbox_send_lmm.Reads as send-lmm
+use Rattle.linkbox_send.proofs.linkbox_send_dmm.Reads as send-dmm
+use Rattle.linkbox_records.proofs.linkbox_read_settings.Reads as read-settings
+use Rattle.linkbox_records.proofs.linkbox_write_settings.Reads as write-settings
+use Rattle.linkbox_records.proofs.linkbox_read_line.Reads as read-line
+use Rattle.linkbox_records.proofs.linkbox_write_line.Reads as write-line
+use Rattle.linkbox_reader.proofs.linkbox_tlv.Reads as tlv
+use Rattle.linkbox_said.specs.Heard.{plainSays, frameSays, tickSays, sendSays, settingsSays, writeSays, lineSays, tlvSays, writeNumbers, lineNumbers, tlvNumbers}
+use Rattle.linkbox_said.specs.Lying.{stateIn, afterFrame, afterTick, afterClear, behind, arrivalIn}
+
+-- the answer that C reads from its numbers is the paper's, and the numbers are those of that answer, all others 0; the state that lies with
+-- C then, its buffer, and what it is handed out are the paper's too
+pub record Tells (x : Answer) (n : Numbers) (s : State) (b : List ℕ) (h : HandedOut) (o : Outcome) : Type 0 where
+  pub answer : x ≡ o .answer
+  pub numbers : n ≡ numbersOf (o .answer)
+  pub state : s ≡ o .state
+  pub buffer : b ≡ o .buffer
+  pub out : h ≡ o .out
+
+-- ── the calls on a box ──
+
+pub record Shipped : Type 1 where
+  -- a new setting: the caller takes over what is handed out, unless it is refused
+  pub new-setting : (κs : _) (a : _) (r : _) (s : _) → new-setting.Post κs a r s → Octets (now (a .1 .0)) → (before : State) (o : Outcome)
+      → Said before (call.new-setting (settingsOf (now (a .0)) (now (a .1 .0)) (now (a .1 .1 .0)))) o
+      → Tells (plainSays (r .refusal)) (counted (r .refusal) 0 0) (takenOver before (r .refusal) (shown (r .state))) []
+      (call.a-state (shown (r .state))) o
+  pub frame : (κs : _) (a : _) (r : _) (s : _) → frame.Post κs a r s → Octets (now (behind a .1 .0)) → (o : Outcome)
+      → Said (stateIn a) (call.frame (arrivalIn (behind a))) o
+      → Tells (frameSays r) (frameNumbers r) (afterFrame a s) (now (behind s .1 .1 .1 .1 .0)) nothing o
+  pub tick : (κs : _) (a : _) (r : _) (s : _) → tick.Post κs a r s → (o : Outcome) → Said (stateIn a) (call.tick (now (behind a .0))) o
+      → Tells (tickSays r) (counted (r .refusal) 0 (r .length)) (afterTick a s) (now (behind s .0)) nothing o
+  pub clear : (κs : _) (a : _) (r : _) (s : _) → clear.Post κs a r s → (o : Outcome) → Said (stateIn a) call.clear o
+      → Tells (plainSays r) (counted r 0 0) (afterClear a s) [] nothing o
+  pub send-lmm : (κs : _) (a : _) (r : _) (s : _) → send-lmm.Post κs a r s → (o : Outcome)
+      → Said (stateIn a) (call.send-LMM (now (behind a .0))) o
+      → Tells (sendSays r) (counted (r .refusal) 0 (r .length)) (stateIn a) (now (behind s .0)) nothing o
+  pub send-dmm : (κs : _) (a : _) (r : _) (s : _) → send-dmm.Post κs a r s → (o : Outcome)
+      → Said (stateIn a) (call.send-DMM (behind a .0) (now (behind a .1 .0))) o
+      → Tells (sendSays r) (counted (r .refusal) 0 (r .length)) (stateIn a) (now (behind s .1 .0)) nothing o
+  pub conditions : (κs : _) (a : _) (r : _) (s : _) → conditions.Post κs a r s → (o : Outcome) → Said (stateIn a) call.conditions o
+      → Tells (conditionsAnswer r) (counted (r .refusal) 0 0) (stateIn a) [] nothing o
+      × ((r .refusal ≡ 0 → ⊥) → r .conditions ≡ noConditions)
+
+-- ── the calls beside a box ──
+
+pub record ShippedBeside : Type 1 where
+  -- the lent session's function, whose proof is by hand, has its clause `Lent` in place of a `Reads.Post`
+  pub measure : FollowsLent Lent
+  -- settings that are read, zeros beside 7
+  pub read-settings : (κs : _) (a : _) (r : _) (s : _) → read-settings.Post κs a r s → (o : RecordLeft)
+      → RecordSaid (stored.read-settings (now (a .0))) o → (leaving (settingsSays r) [] ≡ o) × ((r .refusal ≡ 0 → ⊥) → r ≡ refusedRead)
+  pub write-settings : (κs : _) (a : _) (r : _) (s : _) → write-settings.Post κs a r s → (o : RecordLeft)
+      → RecordSaid (stored.write-settings (settingsOf (now (a .1 .0)) (now (a .1 .1 .0)) (now (a .1 .1 .1 .0))) (now (a .0))) o
+      → (leaving (writeSays r) (now (s .0)) ≡ o) × (r ≡ writeNumbers (o .answer))
+  pub read-line : (κs : _) (a : _) (r : _) (s : _) → read-line.Post κs a r s → (o : RecordLeft)
+      → RecordSaid (stored.read-line (now (a .0))) o → (leaving (lineSays r) [] ≡ o) × (r ≡ lineNumbers (o .answer))
+  pub write-line : (κs : _) (a : _) (r : _) (s : _) → write-line.Post κs a r s → (o : RecordLeft)
+      → RecordSaid (stored.write-line (a .1 .0) (now (a .0))) o → (leaving (writeSays r) (now (s .0)) ≡ o) × (r ≡ writeNumbers (o .answer))
+  -- a TLV, its place and length 0 where there is no value
+  pub tlv : (κs : _) (a : _) (r : _) (s : _) → tlv.Post κs a r s → Octets (now (a .0)) → (o : ReaderTells)
+      → ReaderSaid (now (a .0)) (a .1 .0) o
+      → (tlvSays r (now (a .0)) ≡ o)
+      × (record { refusal = r .refusal; drop = r .drop; value = r .value } ≡ tlvNumbers o)
+      × (r .value ≡ 0 → (r .start ≡ 0) × (r .length ≡ 0))

@@ -1,0 +1,24 @@
+// The C boundary, the lent loss session, for firmware in C or Rust (host/linkbox). It calls the function of its room and tells its answer in the paper's
+// numbers. Any content of the memory is a value. What a caller sees to is that the pointer is to memory of this size.
+ghost use mathlib.Core.Path.{_≡_};
+ghost use Rattle.loss_session.specs.Session.{readings};
+ghost use Rattle.loss_lent.specs.Lent.{Lent};
+use loss_lent::answer;
+use loss_reading::LossTold;
+use loss_session::LossSession;
+
+// One more reading of the lent loss session: the one function that is lent a struct. It only calls and stores.
+#[no_mangle]
+pub extern "C" fn linkbox_measure(
+    session: &mut LossSession,
+    txf: u32,
+    rxf: u32,
+    txb: u32,
+    ours: u32,
+) -> LossTold
+    ensures { λ t. ⌜ Lent (now (session .entry)) (readings txf rxf txb ours) t (now (session .exit)) ⌝ }
+{
+    let u = answer(*session, txf, rxf, txb, ours);
+    *session = u.session;
+    u.told
+}

@@ -1,0 +1,23 @@
+-- Two outcomes that a contract allows are equal: one answer in numbers, and one content of each array. Stated over `Reads.Post`, which the check reads off
+-- the source's own clauses. Assumes nothing.
+use mathlib.Core.Path.{_≡_, sym, _∙_}
+use denote.Ref.{now}
+use Rattle.state_places.proofs.Stores.{stores}
+use Rattle.linkbox_state.proofs.linkbox_new_setting.Reads as new-setting
+use Rattle.linkbox_state.proofs.linkbox_clear.Reads as clear
+use Rattle.linkbox_state.proofs.linkbox_conditions.Reads as conditions
+
+pub linkbox-new-setting-one : (κs : _) (a : _) (r r′ : _) (s s′ : _) → new-setting.Post κs a r s → new-setting.Post κs a r′ s′ → r ≡ r′
+linkbox-new-setting-one κs a r r′ s s′ p q = p .0 ∙ sym (q .0)
+
+pub linkbox-clear-one : (κs : _) (a : _) (r r′ : _) (s s′ : _) → clear.Post κs a r s → clear.Post κs a r′ s′
+    → (r ≡ r′)
+    × (now (s .1 .1 .1 .1 .1 .0) ≡ now (s′ .1 .1 .1 .1 .1 .0))
+    × (now (s .1 .1 .1 .1 .1 .1 .0) ≡ now (s′ .1 .1 .1 .1 .1 .1 .0))
+linkbox-clear-one κs a r r′ s s′ p q =
+    let o = stores (now (a .0)) (now (a .1 .0)) (now (a .1 .1 .0)) .one (now (a .1 .1 .1 .0)) (now (a .1 .1 .1 .1 .0)) (now (s .1 .1 .1 .1 .1 .0)) (now (s .1 .1 .1 .1 .1 .1 .0))
+    (now (a .1 .1 .1 .0)) (now (a .1 .1 .1 .1 .0)) (now (s′ .1 .1 .1 .1 .1 .0)) (now (s′ .1 .1 .1 .1 .1 .1 .0)) (p .1 .1) (q .1 .1) (p .1 .0 ∙ sym (q .1 .0)) in
+    (p .0 ∙ sym (q .0), o .2, o .3)
+
+pub linkbox-conditions-one : (κs : _) (a : _) (r r′ : _) (s s′ : _) → conditions.Post κs a r s → conditions.Post κs a r′ s′ → r ≡ r′
+linkbox-conditions-one κs a r r′ s s′ p q = p ∙ sym q

@@ -1,0 +1,9 @@
+-- What C is told of a new setting, and the state that it is handed: the room's own, the answer by its number. Definitions only.
+use Prim.Native.Nat.{ℕ}
+use mathlib.Core.List.{List}
+use Rattle.state_settings.specs.Settings.{settingsOf}
+use Rattle.call_setting.specs.Start.{settingOf, numbersOf}
+use Rattle.linkbox_state.specs.declared.NewBox.{NewBox}
+
+abbrev pub newBox : List ℕ → List ℕ → List ℕ → NewBox
+newBox words names ids = record { refusal = numbersOf (settingsOf words names ids) .refusal; state = settingOf words names ids .state }

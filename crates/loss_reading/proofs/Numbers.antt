@@ -1,0 +1,34 @@
+-- The statements of specs/Told.antt, and that the numbers of an answer are those that the paper gives. Assumes nothing.
+use mathlib.Core.Path.{_≡_, refl}
+use lib.IntN.{pos}
+use mathlib.Core.Bool.{not}
+use mathlib.Core.List.{[], _∷_}
+use lib.Dec.{eqb}
+use Rattle.base_laws.specs.Tests.{choose}
+use Rattle.base_laws.proofs.Tests.{choose-map}
+use Rattle.loss_session.specs.declared.Readings.{Readings}
+use Rattle.loss_session.specs.declared.LossSession.{LossSession}
+use Rattle.loss_reading.specs.declared.LossAnswer.{LossAnswer}
+use Rattle.loss_reading.specs.declared.LossAnswer.the-variants.{NotWellFormed, Full, First, Measured}
+use Rattle.loss_reading.specs.declared.Updated.{Updated}
+use Rattle.loss_session.specs.Session.{wellFormed}
+use Rattle.loss_reading.specs.Reading.{unchanged, firstOf, measuredOf, afterReading}
+use Rattle.loss_reading.specs.Told.{told, numbersOf, LossNumbers}
+
+-- the two chains have the same tests, in the same order
+pub told-numbers : (s : LossSession) (r : Readings) → told (afterReading s r .answer) ≡ numbersOf s r
+unfolding afterReading numbersOf choose told
+told-numbers s r =
+    choose-map (λ (u : Updated). told (u .answer))
+    ((not (wellFormed s), unchanged NotWellFormed s) ∷ (eqb (s .kept) 0, firstOf s r) ∷ (eqb (s .intervals) 1000000000, unchanged Full s) ∷ [])
+    (measuredOf s r)
+
+zeros : (a : LossAnswer) → ((told a .refusal ≡ 0) → ⊥) → (told a .near ≡ pos 0) × (told a .far ≡ pos 0)
+unfolding told
+zeros NotWellFormed h = (refl, refl)
+zeros Full h = (refl, refl)
+zeros First h = (refl, refl)
+zeros (Measured n f) h = absurd (h refl)
+
+pub loss-numbers : LossNumbers
+loss-numbers = record { zeros = zeros }

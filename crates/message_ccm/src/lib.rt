@@ -1,0 +1,71 @@
+// The CCM, written into the caller's buffer: made of what is given and of no state. It asks nothing of its caller.
+ghost use mathlib.Core.Path.{_≡_};
+ghost use Prim.Native.Nat.{_≤_};
+ghost use lib.ListN.{length};
+ghost use Rattle.base_laws.specs.Lists.{part, laid};
+ghost use Rattle.frame_head.specs.Head.{behindHead};
+ghost use Rattle.state_settings.specs.Settings.{addressAt};
+ghost use Rattle.message_parts.specs.Buffer.{writtenOf, bufferOf, told, numbersOf};
+ghost use Rattle.message_ccm.specs.Continuity.{ccmFixed, ccmOctets};
+use base_bits::ccm_flags;
+use base_bits::first_octet;
+use base_bits::mep_id_of;
+use base_octets::numbers::write_big;
+use base_octets::parts::copy_octets;
+use frame_head::head::HEAD_LENGTH;
+use frame_multicast::multicast_of;
+use message_parts::parts::Written;
+use message_parts::parts::write_head;
+
+// What a CCM says beside our address and MEG ID: level, RDI (0 or 1), period code, sequence, MEP ID, and the counts
+//   txfcf   TxFCf, the frames that we had sent
+//   rxfcb   RxFCb, those that we had received when the peer's last CCM came
+//   txfcb   TxFCb, those that the peer had sent, as that CCM said
+#[repr(C)]
+pub struct CcmValues {
+    pub level: u32,
+    pub rdi: u32,
+    pub period: u32,
+    pub sequence: u32,
+    pub mep: u32,
+    pub txfcf: u32,
+    pub rxfcb: u32,
+    pub txfcb: u32,
+}
+
+// Writes a CCM's fixed part and the End TLV behind it.
+fn write_ccm_fixed(into: &mut [u8], meg: &[u8], ccm: CcmValues)
+    requires { ⌜ (behindHead 75 ≤ length (now into)) × (length (now meg) ≡ 48) ⌝ }
+    ensures { λ _. ⌜ now (into .exit) ≡ laid (behindHead 4) (ccmFixed (now (meg .entry)) ccm) (now (into .entry)) ⌝ }
+{
+    write_big(into, HEAD_LENGTH + 4, 4, ccm.sequence);
+    write_big(into, HEAD_LENGTH + 8, 2, mep_id_of(ccm.mep));
+    copy_octets(into, HEAD_LENGTH + 10, meg);
+    write_big(into, HEAD_LENGTH + 58, 4, ccm.txfcf);
+    write_big(into, HEAD_LENGTH + 62, 4, ccm.rxfcb);
+    write_big(into, HEAD_LENGTH + 66, 4, ccm.txfcb);
+    write_big(into, HEAD_LENGTH + 70, 5, 0);
+}
+
+// Writes a CCM to the multicast address of its level, with our own address and MEG ID.
+pub fn write_ccm(into: &mut [u8], names: &[u8; 60], ccm: CcmValues) -> Written
+    ensures { λ r. ⌜ (r ≡ writtenOf (ccmOctets (addressAt 0 (now (names .entry))) (part 12 48 (now (names .entry))) ccm) (now (into .entry))) × (told r ≡ numbersOf (ccmOctets (addressAt 0 (now (names .entry))) (part 12 48 (now (names .entry))) ccm) (now (into .entry))) ⌝ }
+    ensures { λ _. ⌜ (now (into .exit) ≡ bufferOf (ccmOctets (addressAt 0 (now (names .entry))) (part 12 48 (now (names .entry))) ccm) (now (into .entry))) × (length (ccmOctets (addressAt 0 (now (names .entry))) (part 12 48 (now (names .entry))) ccm) ≡ 89) ⌝ }
+{
+    let all: &[u8] = names;
+    if into.len() < 89 {
+        return Written::NoRoom;
+    }
+    let group = multicast_of(ccm.level);
+    copy_octets(into, 0, &group);
+    write_head(
+        into,
+        &all[..6],
+        first_octet(ccm.level, 0),
+        1,
+        ccm_flags(ccm.rdi, ccm.period),
+        70,
+    );
+    write_ccm_fixed(into, &all[12..60], ccm);
+    Written::Octets(89)
+}

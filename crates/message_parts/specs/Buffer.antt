@@ -1,0 +1,40 @@
+-- A message and the caller's buffer. The paper, refusal 3: a message must be written and the buffer is shorter than it; a refused call leaves
+-- buffers unchanged; rule 6: octets of the buffer after a written message stay. Definitions and the statement only.
+use Prim.Native.Nat.{ℕ}
+use mathlib.Core.Path.{_≡_}
+use mathlib.Core.List.{List}
+use mathlib.Core.Bool.{Bool, cond}
+use lib.Dec.{ltb}
+use lib.ListN.{length}
+use Rattle.base_laws.specs.Lists.{laid}
+use Rattle.message_parts.specs.declared.parts.Written.{Written}
+use Rattle.message_parts.specs.declared.parts.Written.the-variants.{NoRoom, Octets}
+use Rattle.message_parts.specs.declared.parts.WrittenTold.{WrittenTold}
+
+-- the buffer is shorter than the message
+abbrev pub noRoom : List ℕ → List ℕ → Bool
+noRoom message buffer = ltb (length buffer) (length message)
+
+abbrev pub writtenOf : List ℕ → List ℕ → Written
+writtenOf message buffer = cond (noRoom message buffer) NoRoom (Octets (length message))
+
+-- the message laid over the buffer's first octets, or the buffer as it was
+abbrev pub bufferOf : List ℕ → List ℕ → List ℕ
+bufferOf message buffer = cond (noRoom message buffer) buffer (laid 0 message buffer)
+
+-- ── in the paper's numbers ──
+
+abbrev pub numbers : ℕ → ℕ → WrittenTold
+numbers refusal length = record { refusal = refusal; length = length }
+
+unfoldable pub told : Written → WrittenTold
+told NoRoom = numbers 3 0
+told (Octets n) = numbers 0 n
+
+abbrev pub numbersOf : List ℕ → List ℕ → WrittenTold
+numbersOf message buffer = cond (noRoom message buffer) (numbers 3 0) (numbers 0 (length message))
+
+-- an answer is told as the paper numbers it, and no two answers are told alike
+pub record WrittenNumbers : Type 0 where
+  pub agree : (message buffer : List ℕ) → told (writtenOf message buffer) ≡ numbersOf message buffer
+  pub apart : (a b : Written) → told a ≡ told b → a ≡ b

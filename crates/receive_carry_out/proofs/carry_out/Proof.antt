@@ -1,0 +1,106 @@
+-- Each arm is its line of `carriedOut`. Assumes nothing.
+use Prim.Native.Nat.{ℕ}
+use mathlib.Core.Path.{_≡_, sym, ap, ap₂, _∙_}
+use mathlib.Core.List.{List}
+use denote.Ref.{now}
+use lib.ListN.{length}
+use Rattle.state_view.specs.State.{viewOf}
+use Rattle.receive_answer.specs.declared.FrameAnswer.{FrameAnswer}
+use Rattle.receive_carry_out.specs.CarryOut.{framed, beside, carriedOut}
+use borrow.Author.Needs.{needs}
+use Rattle.receive_carry_out.proofs.carry_out.Statement.{statement}
+use Rattle.receive_carry_out.proofs.carry_out.Tie as tie
+
+enum-known-decision : tie.Need-enum-known-decision
+enum-known-decision c = search needs
+
+enum-told : tie.Need-enum-told
+enum-told c = search needs
+
+enum-known-decision-2 : tie.Need-enum-known-decision-2
+enum-known-decision-2 c = search needs
+
+apply-requires : tie.Need-apply-requires
+apply-requires c κs = search needs
+
+enum-known-decision-3 : tie.Need-enum-known-decision-3
+enum-known-decision-3 c = search needs
+
+respond-requires : tie.Need-respond-requires
+respond-requires c κs = search needs
+
+enum-known-decision-4 : tie.Need-enum-known-decision-4
+enum-known-decision-4 c = search needs
+
+delay-answer-requires : tie.Need-delay-answer-requires
+delay-answer-requires c κs = search needs
+
+returns : tie.Need-returns
+unfolding carriedOut
+returns c = let a = c .before .before .before .before .before .before .before .before .before .args in
+    let s = viewOf (now (a .set)) (now (a .names)) (now (a .ids)) (now (a .timers)) (now (a .rdi)) (now (a .run)) (now (a .totals)) in
+    let f = now (a .frame) in
+    let o = now (a .out) in
+    let w : length (now (a .run)) ≡ 15 = search needs in
+    let z : length (now (a .totals)) ≡ 2 = search needs in
+    (sym (ap (carriedOut s f (a .receive) (a .transmit) o) (c .before .decision .given .1)), record { words = w; both = z })
+
+returns-2 : tie.Need-returns-2
+unfolding carriedOut
+returns-2 c = let a = c .before .before .before .before .before .before .before .before .args in
+    let s = viewOf (now (a .set)) (now (a .names)) (now (a .ids)) (now (a .timers)) (now (a .rdi)) (now (a .run)) (now (a .totals)) in
+    let f = now (a .frame) in
+    let o = now (a .out) in
+    let w : length (now (a .run)) ≡ 15 = search needs in
+    let z : length (now (a .totals)) ≡ 2 = search needs in
+    (sym (ap (carriedOut s f (a .receive) (a .transmit) o) (c .enum-told .given .1)), record { words = w; both = z })
+
+returns-3 : tie.Need-returns-3
+unfolding carriedOut
+returns-3 c = let a = c .before .before .before .before .before .before .before .before .before .before .before .before .before .before .args in
+    let s = viewOf (now (a .set)) (now (a .names)) (now (a .ids)) (now (a .timers)) (now (a .rdi)) (now (a .run)) (now (a .totals)) in
+    let f = now (a .frame) in
+    let o = now (a .out) in
+    (ap (beside o) (c .apply .ensures .0) ∙ sym (ap (carriedOut s f (a .receive) (a .transmit) o) (c .before .before .before .before .before .before .decision2 .given .1)), c .apply .ensures .1)
+
+same-length : tie.Need-same-length
+same-length c = search needs
+
+returns-4 : tie.Need-returns-4
+unfolding carriedOut
+returns-4 c = let a = c .before .before .before .before .before .before .before .before .before .before .before .before .before .before .before .before .before .args in
+    let s = viewOf (now (a .set)) (now (a .names)) (now (a .ids)) (now (a .timers)) (now (a .rdi)) (now (a .run)) (now (a .totals)) in
+    let f = now (a .frame) in
+    let o = now (a .out) in
+    let w : length (now (a .run)) ≡ 15 = search needs in
+    let z : length (now (a .totals)) ≡ 2 = search needs in
+    (ap₂ (λ (x : FrameAnswer) (y : List ℕ). framed x s y) (c .before .before .respond .ensures .0) (c .before .before .respond .ensures .1) ∙ sym (ap (carriedOut s f (a .receive) (a .transmit) o) (c .before .before .before .before .before .before .before .before .before .decision3 .given .1)), record { words = w; both = z })
+
+returns-5 : tie.Need-returns-5
+unfolding carriedOut
+returns-5 c = let a = c .before .before .before .before .before .before .before .before .before .before .args in
+    let s = viewOf (now (a .set)) (now (a .names)) (now (a .ids)) (now (a .timers)) (now (a .rdi)) (now (a .run)) (now (a .totals)) in
+    let f = now (a .frame) in
+    let o = now (a .out) in
+    let w : length (now (a .run)) ≡ 15 = search needs in
+    let z : length (now (a .totals)) ≡ 2 = search needs in
+    (ap (λ (x : FrameAnswer). framed x s o) (c .delay-answer .ensures) ∙ sym (ap (carriedOut s f (a .receive) (a .transmit) o) (c .before .before .decision4 .given .1)), record { words = w; both = z })
+
+pub carry-out-spec : {M : Type 1} → statement M
+carry-out-spec =
+    tie.close
+    (tie.spec
+    enum-known-decision
+    enum-told
+    enum-known-decision-2
+    apply-requires
+    enum-known-decision-3
+    respond-requires
+    enum-known-decision-4
+    delay-answer-requires
+    returns
+    returns-2
+    returns-3
+    same-length
+    returns-4
+    returns-5)

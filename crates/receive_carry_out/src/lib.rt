@@ -1,0 +1,68 @@
+// What was decided about a frame is carried out: the state is changed, a reply is written, or the frame is only answered.
+ghost use mathlib.Core.Path.{_≡_};
+ghost use Rattle.state_view.specs.State.{lying};
+ghost use Rattle.state_places.specs.Stored.{Whole};
+ghost use Rattle.receive_carry_out.specs.CarryOut.{delayAnswer, framed, carriedOut};
+use base_stamp::Stamp;
+use receive_answer::Drop;
+use receive_answer::FrameAnswer;
+use receive_change::apply;
+use receive_delay::DelayAnswer;
+use receive_handle::Decision;
+use receive_respond::respond;
+use state_settings::PEERS;
+
+// What a delay reply is answered, as a frame's answer.
+fn delay_answer(answer: DelayAnswer) -> FrameAnswer
+    ensures { λ r. ⌜ r ≡ delayAnswer answer ⌝ }
+{
+    match answer {
+        DelayAnswer::BadStamp => FrameAnswer::Dropped(Drop::Value),
+        DelayAnswer::TooLarge => FrameAnswer::Dropped(Drop::TooLarge),
+        DelayAnswer::TwoWay { twoway } => FrameAnswer::TwoWay { twoway },
+        DelayAnswer::AllWays { twoway, far, near } => FrameAnswer::AllWays { twoway, far, near },
+    }
+}
+
+// Does with a frame what was decided about it.
+pub fn carry_out(
+    set: &[u32; 4],
+    names: &[u8; 60],
+    ids: &[u32; PEERS],
+    timers: &mut [u32; PEERS],
+    rdi: &mut [u32; PEERS],
+    run: &mut [u32; 15],
+    totals: &mut [i64; 2],
+    frame: &[u8],
+    receive: Stamp,
+    transmit: Stamp,
+    decision: Decision,
+    out: &mut [u8],
+) -> FrameAnswer
+    ensures { λ r. ⌜ framed r (lying (set .entry) (names .entry) (ids .entry) (timers .exit) (rdi .exit) (run .exit) (totals .exit)) (now (out .exit)) ≡ carriedOut (lying (set .entry) (names .entry) (ids .entry) (timers .entry) (rdi .entry) (run .entry) (totals .entry)) (now (frame .entry)) receive transmit (now (out .entry)) decision ⌝ }
+    ensures { λ _. ⌜ Whole (now (run .exit)) (now (totals .exit)) ⌝ }
+{
+    // a view of an array tells its length, and costs nothing
+    let _words: &[u32] = run;
+    let _both: &[i64] = totals;
+    match decision {
+        Decision::Drops(drop) => FrameAnswer::Dropped(drop),
+        Decision::Passes => FrameAnswer::Passed,
+        Decision::Changes(change) => apply(set, names, ids, timers, rdi, run, totals, change),
+        Decision::Replies(request) => respond(
+            set,
+            names,
+            ids,
+            timers,
+            rdi,
+            run,
+            totals,
+            frame,
+            receive,
+            transmit,
+            request,
+            out,
+        ),
+        Decision::Delays(answer) => delay_answer(answer),
+    }
+}

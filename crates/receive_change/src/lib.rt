@@ -1,0 +1,123 @@
+// What a frame changes in a state, where it lies: the one place where a frame changes a state. Rules 1, 3, 5 and 7 of the paper.
+ghost use mathlib.Core.Path.{_≡_};
+ghost use Rattle.state_view.specs.State.{lying};
+ghost use Rattle.state_places.specs.Stored.{Whole};
+ghost use Rattle.receive_change.specs.Change.{answerOf, readTaken, ended, oneMore, applied};
+use base_period::hold_of;
+use loss_reading::LossAnswer;
+use loss_session::Readings;
+use loss_step::take_reading;
+use receive_answer::Drop;
+use receive_answer::FrameAnswer;
+use receive_signals::Signal;
+use receive_signals::set_timers;
+use state_places::put_session;
+use state_settings::PEERS;
+use state_settings::PERIOD;
+use state_view::RECEIVED;
+use state_view::SENT;
+use state_view::UNEXPECTED_LEVEL;
+use state_view::session_of;
+
+// What a frame changes in the state.
+pub enum Change {
+    // Rule 1: one more service frame, from the passive side or the active.
+    Sent,
+    Received,
+    // Rule 3: a CCM of a lower level.
+    UnexpectedLevel,
+    // Rule 5: what a CCM, AIS or LCK of our level tells.
+    Told(Signal),
+    // Rule 7: the counts of a loss reply.
+    Reading { txf: u32, rxf: u32, txb: u32 },
+}
+
+// One more, and 0 after 4,294,967,295.
+fn one_more(n: u32) -> u32
+    ensures { λ r. ⌜ r ≡ oneMore n ⌝ }
+{
+    std::num::wrapping_add_u32(n, 1)
+}
+
+// What a reading is answered, as a frame's answer.
+fn answer_of(answer: LossAnswer) -> FrameAnswer
+    ensures { λ r. ⌜ r ≡ answerOf answer ⌝ }
+{
+    match answer {
+        LossAnswer::NotWellFormed => FrameAnswer::NotWellFormed,
+        LossAnswer::Full => FrameAnswer::Full,
+        LossAnswer::First => FrameAnswer::First,
+        LossAnswer::Measured { near, far } => FrameAnswer::Measured { near, far },
+    }
+}
+
+// Takes the counts of a loss reply, with our received count beside them, into the session.
+fn take_counts(
+    set: &[u32; 4],
+    names: &[u8; 60],
+    ids: &[u32; PEERS],
+    timers: &[u32; PEERS],
+    rdi: &[u32; PEERS],
+    run: &mut [u32; 15],
+    totals: &mut [i64; 2],
+    txf: u32,
+    rxf: u32,
+    txb: u32,
+) -> FrameAnswer
+    ensures { λ r. ⌜ ended r (lying (set .entry) (names .entry) (ids .entry) (timers .entry) (rdi .entry) (run .exit) (totals .exit)) ≡ readTaken (lying (set .entry) (names .entry) (ids .entry) (timers .entry) (rdi .entry) (run .entry) (totals .entry)) txf rxf txb ⌝ }
+    ensures { λ _. ⌜ Whole (now (run .exit)) (now (totals .exit)) ⌝ }
+{
+    let reading = Readings {
+        txf,
+        rxf,
+        txb,
+        ours: run[RECEIVED],
+    };
+    let updated = take_reading(session_of(run, totals), reading);
+    let after = updated.session;
+    put_session(set, names, ids, timers, rdi, run, totals, after);
+    let answer = updated.answer;
+    answer_of(answer)
+}
+
+// Applies a change, and answers the frame.
+pub fn apply(
+    set: &[u32; 4],
+    names: &[u8; 60],
+    ids: &[u32; PEERS],
+    timers: &mut [u32; PEERS],
+    rdi: &mut [u32; PEERS],
+    run: &mut [u32; 15],
+    totals: &mut [i64; 2],
+    change: Change,
+) -> FrameAnswer
+    ensures { λ r. ⌜ ended r (lying (set .entry) (names .entry) (ids .entry) (timers .exit) (rdi .exit) (run .exit) (totals .exit)) ≡ applied (lying (set .entry) (names .entry) (ids .entry) (timers .entry) (rdi .entry) (run .entry) (totals .entry)) change ⌝ }
+    ensures { λ _. ⌜ Whole (now (run .exit)) (now (totals .exit)) ⌝ }
+{
+    // a view of an array tells its length, and costs nothing
+    let _words: &[u32] = run;
+    let _both: &[i64] = totals;
+    match change {
+        Change::Sent => {
+            let n = one_more(run[SENT]);
+            run[SENT] = n;
+            FrameAnswer::Passed
+        }
+        Change::Received => {
+            let n = one_more(run[RECEIVED]);
+            run[RECEIVED] = n;
+            FrameAnswer::Passed
+        }
+        Change::UnexpectedLevel => {
+            run[UNEXPECTED_LEVEL] = hold_of(set[PERIOD]);
+            FrameAnswer::Dropped(Drop::Level)
+        }
+        Change::Told(signal) => {
+            set_timers(set, names, ids, timers, rdi, run, totals, signal);
+            FrameAnswer::Taken
+        }
+        Change::Reading { txf, rxf, txb } => {
+            take_counts(set, names, ids, timers, rdi, run, totals, txf, rxf, txb)
+        }
+    }
+}

@@ -1,0 +1,72 @@
+// The first thing decided about a frame: whether it is counted, passes, or is looked at further, and as what. It looks at the level that is
+// set, the side, the length, the EtherType and the first octet of the PDU, and at nothing else.
+ghost use mathlib.Core.Path.{_≡_};
+ghost use Rattle.receive_class.specs.Class.{oamFrame, bySide, classOf};
+use base_octets::numbers::read_big;
+use frame_head::head::HEAD_LENGTH;
+use frame_level::level;
+
+// Where a frame comes from: the fibre, or the equipment behind the box.
+pub enum Side {
+    Active,
+    Passive,
+}
+
+// What a frame is to the box.
+pub enum Class {
+    // No OAM frame: it passes and is counted.
+    Service,
+    // D1: an OAM frame shorter than 18.
+    Short,
+    // Of a level above ours: it passes.
+    Above,
+    // D2: of our level or a lower one, from the passive side.
+    Inside,
+    // Of a lower level, from the active side.
+    Below,
+    // Of our level, from the active side.
+    Own,
+}
+
+// Whether a frame is an OAM frame; what is shorter than a head is none.
+fn is_oam(frame: &[u8]) -> bool
+    ensures { λ r. ⌜ r ≡ oamFrame (now (frame .entry)) ⌝ }
+{
+    if frame.len() < HEAD_LENGTH {
+        return false;
+    }
+    read_big(frame, 12, 2) == 0x8902
+}
+
+// What a frame that is not above our level is, by the side it comes from.
+fn by_side(ours: u32, side: Side, theirs: u32) -> Class
+    ensures { λ r. ⌜ r ≡ bySide ours side theirs ⌝ }
+{
+    match side {
+        Side::Passive => Class::Inside,
+        Side::Active => {
+            if theirs < ours {
+                Class::Below
+            } else {
+                Class::Own
+            }
+        }
+    }
+}
+
+// What a frame is to a box of this level.
+pub fn class_of(ours: u32, side: Side, frame: &[u8]) -> Class
+    ensures { λ r. ⌜ r ≡ classOf ours side (now (frame .entry)) ⌝ }
+{
+    if !is_oam(frame) {
+        return Class::Service;
+    }
+    if frame.len() < HEAD_LENGTH + 4 {
+        return Class::Short;
+    }
+    let theirs = level(frame);
+    if ours < theirs {
+        return Class::Above;
+    }
+    by_side(ours, side, theirs)
+}

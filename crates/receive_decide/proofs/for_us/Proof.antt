@@ -1,0 +1,80 @@
+-- The addresses, the opcode and the level stand in the frame's head. Assumes nothing.
+use mathlib.Core.Path.{_≡_, sym, _∙_}
+use native.Mathlib.Omega.{arith}
+use denote.Ref.{now}
+use lib.ListN.{length}
+use borrow.Author.Tests.{le-ltb}
+use Prim.Native.Nat.{_≤_, ℕ}
+use mathlib.Core.List.{List}
+use lib.ListN.{take, drop, length-drop}
+use lib.Seq.{length-take-le}
+use Rattle.base_laws.specs.Lists.{part}
+use Rattle.frame_head.specs.Head.{destinationOf, sourceOf, pduOf, levelOf, opcodeOf}
+use Rattle.frame_addresses.specs.Addresses.{inHead}
+use Rattle.state_settings.specs.Settings.{addressAt}
+use Rattle.receive_for_us.specs.Ours.{forUs}
+use Rattle.receive_decide.specs.Decide.{isOurs}
+use borrow.Author.Needs.{needs}
+use Rattle.receive_decide.proofs.for_us.Statement.{statement}
+use Rattle.receive_decide.proofs.for_us.Tie as tie
+
+-- what was found is what the definition looks at
+ours-is : (names f p to from : List ℕ) (l : ℕ) → p ≡ pduOf f → to ≡ inHead (destinationOf f) f → from ≡ inHead (sourceOf f) f → l ≡ levelOf (pduOf f) → 14 ≤ length f
+    → forUs (take 6 names) (take 6 (drop 6 names)) (opcodeOf p) l to from ≡ isOurs (addressAt 0 names) (addressAt 6 names) f
+unfolding part
+ours-is names f p to from l e h k n long = rw (e, h, k, n, le-ltb (length f) 14 long)
+
+pdu-of-requires : tie.Need-pdu-of-requires
+pdu-of-requires c κs = search needs
+
+destination-requires : tie.Need-destination-requires
+destination-requires c κs = search needs
+
+source-requires : tie.Need-source-requires
+source-requires c κs = search needs
+
+slice-aggregate-is-for-us : tie.Need-slice-aggregate-is-for-us
+slice-aggregate-is-for-us c = let f = c .before .before .before .before .before .before .args .names .now in
+    let h : length f ≡ 60 = search needs in
+    sym (length-take-le 6 f (omega arith))
+
+sub-is-for-us : tie.Need-sub-is-for-us
+sub-is-for-us c = search needs
+
+part-is-for-us-start : tie.Need-part-is-for-us-start
+part-is-for-us-start c = search needs
+
+part-is-for-us-end : tie.Need-part-is-for-us-end
+part-is-for-us-end c = search needs
+
+shared-slice-read-is-for-us : tie.Need-shared-slice-read-is-for-us
+shared-slice-read-is-for-us c = let f = now (c .before .before .before .before .before .before .before .before .args .frame) in
+    let p = c .before .before .before .before .before .pdu-of .ensures .0 in
+    let h : 4 ≤ length (now (c .before .before .before .before .before .pdu-of .result)) = rw p (rw (length-drop 14 f) (omega arith)) in
+    omega (arith, h)
+
+level-requires : tie.Need-level-requires
+level-requires c κs = search needs
+
+is-for-us-requires : tie.Need-is-for-us-requires
+is-for-us-requires c κs = search needs
+
+returns : tie.Need-returns
+returns c = let a = c .before .before .before .before .before .before .before .before .before .before .args in
+    c .is-for-us .ensures ∙ ours-is (now (a .names)) (now (a .frame)) _ _ _ _ (c .before .before .before .before .before .before .before .pdu-of .ensures .0) (c .before .before .before .before .before .before .destination .ensures .0) (c .before .before .before .before .before .source .ensures .0) (c .before .level .ensures) (omega arith)
+
+pub for-us-spec : {M : Type 1} → statement M
+for-us-spec =
+    tie.close
+    (tie.spec
+    pdu-of-requires
+    destination-requires
+    source-requires
+    slice-aggregate-is-for-us
+    sub-is-for-us
+    part-is-for-us-start
+    part-is-for-us-end
+    shared-slice-read-is-for-us
+    level-requires
+    is-for-us-requires
+    returns)

@@ -1,0 +1,134 @@
+// What is done with a frame, decided from the settings and the frame alone: no state is looked at. Rules 1 to 5 and 8 of the paper; which
+// requests rule 6 answers, and which counts rule 7 takes.
+ghost use mathlib.Core.Path.{_≡_};
+ghost use Prim.Native.Nat.{_≤_};
+ghost use lib.ListN.{length};
+ghost use Rattle.frame_head.specs.Head.{behindHead};
+ghost use Rattle.state_settings.specs.Settings.{addressAt, settingsOf};
+ghost use Rattle.receive_decide.specs.Decide.{dropFor, isOurs, belowOf, ownOf, countOf, decideOf};
+use base_stamp::Stamp;
+use frame_addresses::destination;
+use frame_addresses::source;
+use frame_head::head::pdu_of;
+use frame_level::level;
+use frame_message::good_opcode;
+use frame_message::message_answer;
+use frame_message_answer::MessageAnswer;
+use frame_opcodes::is_handled;
+use frame_opcodes::rule_of;
+use frame_reader_answer::Bad;
+use receive_answer::Drop;
+use receive_change::Change;
+use receive_class::Class;
+use receive_class::Side;
+use receive_class::class_of;
+use receive_for_us::is_for_us;
+use receive_handle::Decision;
+use receive_handle::handle_message;
+use state_settings::LEVEL;
+use state_settings::PEERS;
+
+// The drop for what the reader finds; a length outside 14 to 1,514 is refused before.
+fn drop_for(bad: Bad) -> Drop
+    ensures { λ r. ⌜ r ≡ dropFor bad ⌝ }
+{
+    match bad {
+        Bad::Length => Drop::Short,
+        Bad::Short => Drop::Short,
+        Bad::Opcode => Drop::Opcode,
+        Bad::Offset => Drop::Offset,
+        Bad::CutOff => Drop::CutOff,
+    }
+}
+
+// Whether a frame is for us.
+fn for_us(names: &[u8; 60], frame: &[u8]) -> bool
+    requires { ⌜ behindHead 4 ≤ length (now frame) ⌝ }
+    ensures { λ r. ⌜ r ≡ isOurs (addressAt 0 (now (names .entry))) (addressAt 6 (now (names .entry))) (now (frame .entry)) ⌝ }
+{
+    let all: &[u8] = names;
+    let pdu = pdu_of(frame);
+    let to = destination(frame);
+    let from = source(frame);
+    is_for_us(&all[..6], &all[6..12], pdu[1], level(frame), to, from)
+}
+
+// Rule 3: a frame of a lower level is dropped; a good CCM for us is remembered.
+fn below(names: &[u8; 60], frame: &[u8]) -> Decision
+    requires { ⌜ behindHead 4 ≤ length (now frame) ⌝ }
+    ensures { λ r. ⌜ r ≡ belowOf (addressAt 0 (now (names .entry))) (addressAt 6 (now (names .entry))) (now (frame .entry)) ⌝ }
+{
+    let ccm = good_opcode(frame) == 1;
+    if ccm & for_us(names, frame) {
+        return Decision::Changes(Change::UnexpectedLevel);
+    }
+    Decision::Drops(Drop::Level)
+}
+
+// Rule 4: a frame of our own level. D3, then D4 and D5, then D6, then D7, then its handler.
+fn own_level(
+    set: &[u32; 4],
+    names: &[u8; 60],
+    ids: &[u32; PEERS],
+    frame: &[u8],
+    receive: Stamp,
+) -> Decision
+    requires { ⌜ behindHead 4 ≤ length (now frame) ⌝ }
+    ensures { λ r. ⌜ r ≡ ownOf (settingsOf (now (set .entry)) (now (names .entry)) (now (ids .entry))) (now (frame .entry)) receive ⌝ }
+{
+    let pdu = pdu_of(frame);
+    let rule = rule_of(pdu[1]);
+    let handler = rule.handler;
+    if !is_handled(handler) {
+        return Decision::Drops(Drop::Opcode);
+    }
+    let ours = for_us(names, frame);
+    match message_answer(frame) {
+        MessageAnswer::Bad(bad) => Decision::Drops(drop_for(bad)),
+        MessageAnswer::PeriodCode => {
+            if ours {
+                Decision::Drops(Drop::Value)
+            } else {
+                Decision::Drops(Drop::Destination)
+            }
+        }
+        MessageAnswer::Message(found) => {
+            if ours {
+                handle_message(set, names, ids, pdu, receive, found)
+            } else {
+                Decision::Drops(Drop::Destination)
+            }
+        }
+    }
+}
+
+// A service frame is counted by its side.
+fn count(side: Side) -> Change
+    ensures { λ r. ⌜ r ≡ countOf side ⌝ }
+{
+    match side {
+        Side::Active => Change::Received,
+        Side::Passive => Change::Sent,
+    }
+}
+
+// Decides what is done with a frame.
+pub fn decide(
+    set: &[u32; 4],
+    names: &[u8; 60],
+    ids: &[u32; PEERS],
+    side: Side,
+    frame: &[u8],
+    receive: Stamp,
+) -> Decision
+    ensures { λ r. ⌜ r ≡ decideOf (settingsOf (now (set .entry)) (now (names .entry)) (now (ids .entry))) side (now (frame .entry)) receive ⌝ }
+{
+    match class_of(set[LEVEL], side, frame) {
+        Class::Service => Decision::Changes(count(side)),
+        Class::Short => Decision::Drops(Drop::Short),
+        Class::Above => Decision::Passes,
+        Class::Inside => Decision::Drops(Drop::Level),
+        Class::Below => below(names, frame),
+        Class::Own => own_level(set, names, ids, frame, receive),
+    }
+}

@@ -1,0 +1,50 @@
+// Whether a frame is for us: D6, by its addresses, its opcode and its level. No frame is looked at here, and no state.
+ghost use mathlib.Core.Path.{_≡_};
+ghost use Rattle.receive_for_us.specs.Ours.{hasGroupBit, goodDestination, goodSource, forUs};
+use base_compare::same_octets;
+use frame_multicast::is_multicast;
+use frame_opcodes::rule_of;
+
+// The opcode of a loss reply, the one message that only the loss peer may send.
+const LMR: u8 = 42;
+
+// Whether an address is a group's: the lowest bit of its first octet.
+fn has_group_bit(address: &[u8]) -> bool
+    ensures { λ r. ⌜ r ≡ hasGroupBit (now (address .entry)) ⌝ }
+{
+    if address.len() == 0 {
+        return false;
+    }
+    address[0] % 2 == 1
+}
+
+// Whether a destination is good: our address, or the multicast address of the frame's level where the opcode may go there.
+fn good_destination(own: &[u8], multicast: bool, level: u32, destination: &[u8]) -> bool
+    ensures { λ r. ⌜ r ≡ goodDestination (now (own .entry)) multicast level (now (destination .entry)) ⌝ }
+{
+    same_octets(destination, own) | (multicast & is_multicast(destination, level))
+}
+
+// Whether a source is good: a request is not from a group, a loss reply is from the loss peer.
+fn good_source(losspeer: &[u8], opcode: u8, request: bool, source: &[u8]) -> bool
+    ensures { λ r. ⌜ r ≡ goodSource (now (losspeer .entry)) opcode request (now (source .entry)) ⌝ }
+{
+    let stranger = !same_octets(source, losspeer);
+    !(request & has_group_bit(source)) & !((opcode == LMR) & stranger)
+}
+
+// Tells whether a frame of this opcode and level, with these addresses, is for a box of these addresses.
+pub fn is_for_us(
+    own: &[u8],
+    losspeer: &[u8],
+    opcode: u8,
+    level: u32,
+    destination: &[u8],
+    source: &[u8],
+) -> bool
+    ensures { λ r. ⌜ r ≡ forUs (now (own .entry)) (now (losspeer .entry)) opcode level (now (destination .entry)) (now (source .entry)) ⌝ }
+{
+    let rule = rule_of(opcode);
+    let to = good_destination(own, rule.multicast, level, destination);
+    to & good_source(losspeer, opcode, rule.request, source)
+}

@@ -1,0 +1,68 @@
+// A frame comes: refusals 2, 1 and 6, then what is decided about it, then 3 or 5. The end point's call for every frame, from either side.
+ghost use mathlib.Core.Path.{_≡_};
+ghost use Rattle.state_view.specs.State.{lying};
+ghost use Rattle.state_places.specs.Stored.{Whole};
+ghost use Rattle.base_stamp.specs.Stamps.{Wire};
+ghost use Rattle.receive_answer.specs.Told.{told};
+ghost use Rattle.receive_carry_out.specs.CarryOut.{framed};
+ghost use Rattle.receive_frame.specs.Frame.{frameOf};
+ghost use Rattle.receive_frame.specs.Numbers.{numbersOf};
+use base_stamp::Stamp;
+use base_stamp::good_stamp;
+use frame_head::head::HEAD_LENGTH;
+use frame_head::head::LONGEST;
+use receive_answer::FrameAnswer;
+use receive_carry_out::carry_out;
+use receive_class::Side;
+use receive_decide::decide;
+use state_settings::PEERS;
+use state_well_formed::is_well_formed;
+
+// Takes a frame from a side, with the stamp of its receipt, the stamp to send a reply with, and a buffer for the reply.
+pub fn on_frame(
+    set: &[u32; 4],
+    names: &[u8; 60],
+    ids: &[u32; PEERS],
+    timers: &mut [u32; PEERS],
+    rdi: &mut [u32; PEERS],
+    run: &mut [u32; 15],
+    totals: &mut [i64; 2],
+    side: Side,
+    frame: &[u8],
+    receive: Stamp,
+    transmit: Stamp,
+    out: &mut [u8],
+) -> FrameAnswer
+    ensures { λ r. ⌜ framed r (lying (set .entry) (names .entry) (ids .entry) (timers .exit) (rdi .exit) (run .exit) (totals .exit)) (now (out .exit)) ≡ frameOf (lying (set .entry) (names .entry) (ids .entry) (timers .entry) (rdi .entry) (run .entry) (totals .entry)) side (now (frame .entry)) receive transmit (now (out .entry)) ⌝ }
+    ensures { λ r. ⌜ told r ≡ numbersOf (lying (set .entry) (names .entry) (ids .entry) (timers .entry) (rdi .entry) (run .entry) (totals .entry)) side (now (frame .entry)) receive transmit (now (out .entry)) ⌝ }
+    ensures { λ _. ⌜ Whole (now (run .exit)) (now (totals .exit)) ⌝ }
+    ensures { λ _. ⌜ Wire receive × Wire transmit ⌝ }
+{
+    // a view of an array tells its length, and costs nothing
+    let _words: &[u32] = run;
+    let _both: &[i64] = totals;
+    if !is_well_formed(set, names, ids, timers, rdi, run, totals) {
+        return FrameAnswer::NotWellFormed;
+    }
+    if (frame.len() < HEAD_LENGTH) | (LONGEST < frame.len()) {
+        return FrameAnswer::BadLength;
+    }
+    if !(good_stamp(receive) & good_stamp(transmit)) {
+        return FrameAnswer::BadStamp;
+    }
+    let decision = decide(set, names, ids, side, frame, receive);
+    carry_out(
+        set,
+        names,
+        ids,
+        timers,
+        rdi,
+        run,
+        totals,
+        frame,
+        receive,
+        transmit,
+        decision,
+        out,
+    )
+}

@@ -1,0 +1,135 @@
+// What a good message for us does, by who handles it: rules 5 to 8 of the paper. No state is looked at.
+ghost use mathlib.Core.Path.{_≡_};
+ghost use Prim.Native.Nat.{_+_, _≤_};
+ghost use lib.ListN.{length};
+ghost use Rattle.receive_delay.specs.Delays.{delaysOf};
+ghost use Rattle.frame_measures.specs.Measures.{stamp};
+ghost use Rattle.state_settings.specs.Settings.{settingsOf};
+ghost use Rattle.receive_handle.specs.Handle.{roomFor, readingIn, handleOf, handledOf};
+use base_bits::period_code_of;
+use base_octets::numbers::read_big;
+use base_stamp::Stamp;
+use frame_opcodes::Handler;
+use receive_answer::Drop;
+use receive_change::Change;
+use receive_delay::DelayAnswer;
+use receive_delay::measure_delay;
+use receive_peer::ccm_signal;
+use receive_respond::Request;
+use receive_signals::Signal;
+use state_settings::PEERS;
+
+// What is done with a frame.
+pub enum Decision {
+    // It is dropped, and nothing changes.
+    Drops(Drop),
+    // It passes, and nothing changes.
+    Passes,
+    // It changes the state.
+    Changes(Change),
+    // It is answered.
+    Replies(Request),
+    // It gives delays, or is dropped for its stamps.
+    Delays(DelayAnswer),
+}
+
+// The three counts of a loss reply.
+fn reading_in(pdu: &[u8]) -> Change
+    requires { ⌜ 16 ≤ length (now pdu) ⌝ }
+    ensures { λ r. ⌜ r ≡ readingIn (now (pdu .entry)) ⌝ }
+{
+    Change::Reading {
+        txf: read_big(pdu, 4, 4),
+        rxf: read_big(pdu, 8, 4),
+        txb: read_big(pdu, 12, 4),
+    }
+}
+
+// A stamp of a delay reply.
+fn stamp_at(pdu: &[u8], at: usize) -> Stamp
+    requires { ⌜ at + 8 ≤ length (now pdu) ⌝ }
+    ensures { λ r. ⌜ r ≡ stamp at (now (pdu .entry)) ⌝ }
+{
+    Stamp {
+        seconds: read_big(pdu, at, 4),
+        nanoseconds: read_big(pdu, at + 4, 4),
+    }
+}
+
+// The delays of a delay reply.
+fn delays_in(pdu: &[u8], receive: Stamp) -> DelayAnswer
+    requires { ⌜ 28 ≤ length (now pdu) ⌝ }
+    ensures { λ r. ⌜ r ≡ delaysOf (stamp 4 (now (pdu .entry))) (stamp 12 (now (pdu .entry))) (stamp 20 (now (pdu .entry))) receive ⌝ }
+{
+    measure_delay(
+        stamp_at(pdu, 4),
+        stamp_at(pdu, 12),
+        stamp_at(pdu, 20),
+        receive,
+    )
+}
+
+// A message that has the octets which its handler reads.
+fn handle(
+    set: &[u32; 4],
+    names: &[u8; 60],
+    ids: &[u32; PEERS],
+    pdu: &[u8],
+    receive: Stamp,
+    handler: Handler,
+) -> Decision
+    requires { ⌜ roomFor handler ≤ length (now pdu) ⌝ }
+    ensures { λ r. ⌜ r ≡ handleOf (settingsOf (now (set .entry)) (now (names .entry)) (now (ids .entry))) (now (pdu .entry)) receive handler ⌝ }
+{
+    match handler {
+        Handler::Nobody => Decision::Drops(Drop::Opcode),
+        Handler::ReaderOnly => Decision::Drops(Drop::Opcode),
+        Handler::Continuity => Decision::Changes(Change::Told(ccm_signal(set, names, ids, pdu))),
+        Handler::Loopback => Decision::Replies(Request::Loopback),
+        Handler::Alarm => Decision::Changes(Change::Told(Signal::Alarm {
+            code: period_code_of(pdu[2]),
+        })),
+        Handler::Lock => Decision::Changes(Change::Told(Signal::Lock {
+            code: period_code_of(pdu[2]),
+        })),
+        Handler::LossReply => Decision::Changes(reading_in(pdu)),
+        Handler::LossRequest => Decision::Replies(Request::Loss),
+        Handler::DelayReply => Decision::Delays(delays_in(pdu, receive)),
+        Handler::DelayRequest => Decision::Replies(Request::Delay),
+    }
+}
+
+// How many octets of the PDU a handler reads.
+fn room_for(handler: Handler) -> usize
+    ensures { λ r. ⌜ r ≡ roomFor handler ⌝ }
+{
+    match handler {
+        Handler::Nobody => 0,
+        Handler::ReaderOnly => 0,
+        Handler::Continuity => 0,
+        Handler::Loopback => 0,
+        Handler::Alarm => 4,
+        Handler::Lock => 4,
+        Handler::LossReply => 16,
+        Handler::LossRequest => 0,
+        Handler::DelayReply => 28,
+        Handler::DelayRequest => 0,
+    }
+}
+
+// A message for us, by who handles it. A good one has the octets that its handler reads, so it is never cut off here.
+pub fn handle_message(
+    set: &[u32; 4],
+    names: &[u8; 60],
+    ids: &[u32; PEERS],
+    pdu: &[u8],
+    receive: Stamp,
+    handler: Handler,
+) -> Decision
+    ensures { λ r. ⌜ r ≡ handledOf (settingsOf (now (set .entry)) (now (names .entry)) (now (ids .entry))) (now (pdu .entry)) receive handler ⌝ }
+{
+    if pdu.len() < room_for(handler) {
+        return Decision::Drops(Drop::CutOff);
+    }
+    handle(set, names, ids, pdu, receive, handler)
+}

@@ -1,0 +1,49 @@
+// What a CCM of our level tells: whose it is. Rule 5 of the paper. It looks at the settings and the PDU, and at no state.
+ghost use mathlib.Core.Path.{_≡_};
+ghost use lib.ListN.{take};
+ghost use Rattle.state_settings.specs.Settings.{settingsOf};
+ghost use Rattle.receive_peer.specs.Peers.{ccmSignal};
+use base_bits::mep_id_of;
+use base_bits::period_code_of;
+use base_bits::rdi_of;
+use base_compare::same_octets;
+use base_octets::numbers::read_big;
+use base_words::place_of;
+use receive_signals::Signal;
+use state_settings::COUNT;
+use state_settings::PEERS;
+use state_settings::PERIOD;
+
+// The used slots; all where there are fewer.
+fn front(slots: &[u32], count: u32) -> &[u32]
+    ensures { λ r. ⌜ now r ≡ take count (now (slots .entry)) ⌝ }
+{
+    let used = count as usize;
+    if slots.len() < used {
+        return slots;
+    }
+    &slots[..used]
+}
+
+// Tells what a CCM's PDU says. One too short for a MEG ID has not ours.
+pub fn ccm_signal(set: &[u32; 4], names: &[u8; 60], ids: &[u32; PEERS], pdu: &[u8]) -> Signal
+    ensures { λ r. ⌜ r ≡ ccmSignal (settingsOf (now (set .entry)) (now (names .entry)) (now (ids .entry))) (now (pdu .entry)) ⌝ }
+{
+    let all: &[u8] = names;
+    if pdu.len() < 58 {
+        return Signal::Mismerge;
+    }
+    if !same_octets(&pdu[10..58], &all[12..60]) {
+        return Signal::Mismerge;
+    }
+    let peers = front(ids, set[COUNT]);
+    let slot = place_of(peers, mep_id_of(read_big(pdu, 8, 2)));
+    if peers.len() <= slot {
+        return Signal::UnexpectedMep;
+    }
+    let rdi = rdi_of(pdu[2]);
+    if period_code_of(pdu[2]) != set[PERIOD] {
+        return Signal::UnexpectedPeriod { slot, rdi };
+    }
+    Signal::Heard { slot, rdi }
+}

@@ -1,0 +1,45 @@
+// A loss session put where a state's lies. What storing any word of a state leaves of it is stated in specs/Stored.antt.
+ghost use mathlib.Core.Path.{_≡_};
+ghost use Rattle.state_view.specs.State.{lying};
+ghost use Rattle.state_view.specs.Changed.{withSession};
+ghost use Rattle.state_places.specs.Stored.{Whole};
+use loss_session::LossSession;
+use state_settings::PEERS;
+use state_view::FAR;
+use state_view::INTERVALS;
+use state_view::KEPT;
+use state_view::NEAR;
+use state_view::OURS;
+use state_view::RXFCF;
+use state_view::TXFCB;
+use state_view::TXFCF;
+
+// Puts a loss session where the state's lies.
+pub fn put_session(
+    set: &[u32; 4],
+    names: &[u8; 60],
+    ids: &[u32; PEERS],
+    timers: &[u32; PEERS],
+    rdi: &[u32; PEERS],
+    run: &mut [u32; 15],
+    totals: &mut [i64; 2],
+    session: LossSession,
+)
+    ensures { λ _. ⌜ lying (set .entry) (names .entry) (ids .entry) (timers .entry) (rdi .entry) (run .exit) (totals .exit) ≡ withSession session (lying (set .entry) (names .entry) (ids .entry) (timers .entry) (rdi .entry) (run .entry) (totals .entry)) ⌝ }
+    ensures { λ _. ⌜ Whole (now (run .exit)) (now (totals .exit)) ⌝ }
+{
+    // a view of an array tells its length, and costs nothing
+    let _words: &[u32] = run;
+    let _both: &[i64] = totals;
+    let last = session.last;
+    run[KEPT] = session.kept;
+    run[TXFCF] = last.txf;
+    run[RXFCF] = last.rxf;
+    run[TXFCB] = last.txb;
+    run[OURS] = last.ours;
+    run[INTERVALS] = session.intervals;
+    let near = session.near;
+    let far = session.far;
+    totals[NEAR] = near;
+    totals[FAR] = far;
+}

@@ -1,0 +1,52 @@
+// What a box is set to, and when that is valid. The settings lie in three lent arrays; any content is a value, and what breaks a rule is
+// told and not assumed away.
+ghost use mathlib.Core.Path.{_≡_};
+ghost use lib.ListN.{getD};
+ghost use Rattle.state_settings.specs.Settings.{settingsOf, addressAt};
+ghost use Rattle.state_settings.specs.Valid.{numbersGood, addressesGood, valid};
+use base_compare::same_octets;
+use state_peer_ids::peers_good;
+
+// How many peers a box has room for: the code's only 8. The definitions have theirs, `slots`.
+pub const PEERS: usize = 8;
+
+// Where the settings' words lie.
+pub const LEVEL: usize = 0;
+
+pub const MEP: usize = 1;
+
+pub const PERIOD: usize = 2;
+
+pub const COUNT: usize = 3;
+
+// Whether level, MEP ID and period code are within their bounds, and there is a peer.
+fn numbers_good(set: &[u32; 4]) -> bool
+    ensures { λ r. ⌜ r ≡ numbersGood (getD (now (set .entry)) 0 0) (getD (now (set .entry)) 1 0) (getD (now (set .entry)) 2 0) (getD (now (set .entry)) 3 0) ⌝ }
+{
+    (set[LEVEL] <= 7)
+        & ((1 <= set[MEP]) & (set[MEP] <= 8191))
+        & ((1 <= set[PERIOD]) & (set[PERIOD] <= 7))
+        & (1 <= set[COUNT])
+}
+
+// Whether both addresses are those of single stations, and differ.
+fn addresses_good(names: &[u8; 60]) -> bool
+    ensures { λ r. ⌜ r ≡ addressesGood (addressAt 0 (now (names .entry))) (addressAt 6 (now (names .entry))) ⌝ }
+{
+    let all: &[u8] = names;
+    let same = same_octets(&all[..6], &all[6..12]);
+    (names[0] % 2 == 0) & (names[6] % 2 == 0) & !same
+}
+
+// Whether the settings keep every rule of the paper on their values.
+pub fn is_valid(set: &[u32; 4], names: &[u8; 60], ids: &[u32; PEERS]) -> bool
+    ensures { λ r. ⌜ r ≡ valid (settingsOf (now (set .entry)) (now (names .entry)) (now (ids .entry))) ⌝ }
+{
+    if !numbers_good(set) {
+        return false;
+    }
+    if !addresses_good(names) {
+        return false;
+    }
+    peers_good(ids, set[COUNT], set[MEP])
+}

@@ -1,0 +1,58 @@
+// Whether any condition stands, for the RDI of our own CCM. It only reads the state.
+ghost use mathlib.Core.Path.{_≡_};
+ghost use lib.ListN.{take};
+ghost use Rattle.state_view.specs.State.{lying};
+ghost use Rattle.state_standing.specs.Standing.{standing};
+ghost use Rattle.state_standing.specs.Flag.{flag};
+use base_distinct::is_absent;
+use state_settings::COUNT;
+use state_settings::PEERS;
+use state_view::AIS;
+use state_view::LCK;
+use state_view::MISMERGE;
+use state_view::UNEXPECTED_LEVEL;
+use state_view::UNEXPECTED_MEP;
+use state_view::UNEXPECTED_PERIOD;
+
+// The used slots; all of them where there are fewer.
+fn front(slots: &[u32], count: u32) -> &[u32]
+    ensures { λ r. ⌜ now r ≡ take count (now (slots .entry)) ⌝ }
+{
+    let used = count as usize;
+    if slots.len() < used {
+        return slots;
+    }
+    &slots[..used]
+}
+
+// Tells whether any condition stands.
+pub fn any_stands(
+    set: &[u32; 4],
+    names: &[u8; 60],
+    ids: &[u32; PEERS],
+    timers: &[u32; PEERS],
+    rdi: &[u32; PEERS],
+    run: &[u32; 15],
+    totals: &[i64; 2],
+) -> bool
+    ensures { λ r. ⌜ r ≡ standing (lying (set .entry) (names .entry) (ids .entry) (timers .entry) (rdi .entry) (run .entry) (totals .entry)) ⌝ }
+{
+    let heard = is_absent(front(timers, set[COUNT]), 0);
+    !heard
+        | (0 < run[MISMERGE])
+        | (0 < run[UNEXPECTED_LEVEL])
+        | (0 < run[UNEXPECTED_MEP])
+        | (0 < run[UNEXPECTED_PERIOD])
+        | (0 < run[AIS])
+        | (0 < run[LCK])
+}
+
+// 1 where it holds, else 0.
+pub fn flag_of(holds: bool) -> u32
+    ensures { λ r. ⌜ r ≡ flag holds ⌝ }
+{
+    if holds {
+        return 1;
+    }
+    0
+}

@@ -1,0 +1,74 @@
+// What a box knows, and where it lies: a state is lent in seven arrays, and any content is a value.
+ghost use mathlib.Core.Path.{_≡_};
+ghost use Rattle.state_view.specs.State.{sessionIn};
+use loss_session::LossSession;
+use loss_session::Readings;
+use state_settings::PEERS;
+
+// Where the running words lie: the timers of the conditions, the ticks to the next CCM, the service counts, the loss session.
+pub const MISMERGE: usize = 0;
+
+pub const UNEXPECTED_LEVEL: usize = 1;
+
+pub const UNEXPECTED_MEP: usize = 2;
+
+pub const UNEXPECTED_PERIOD: usize = 3;
+
+pub const AIS: usize = 4;
+
+pub const LCK: usize = 5;
+
+pub const NEXT: usize = 6;
+
+pub const SENT: usize = 7;
+
+pub const RECEIVED: usize = 8;
+
+pub const KEPT: usize = 9;
+
+pub const TXFCF: usize = 10;
+
+pub const RXFCF: usize = 11;
+
+pub const TXFCB: usize = 12;
+
+pub const OURS: usize = 13;
+
+pub const INTERVALS: usize = 14;
+
+// Where the totals lie.
+pub const NEAR: usize = 0;
+
+pub const FAR: usize = 1;
+
+// A state as it lies in its seven arrays: settings' words, names, peers' IDs; peers' timers, peers' RDI, running words, totals.
+#[repr(C)]
+pub struct StateArrays {
+    pub set: [u32; 4],
+    pub names: [u8; 60],
+    pub ids: [u32; PEERS],
+    pub timers: [u32; PEERS],
+    pub rdi: [u32; PEERS],
+    pub run: [u32; 15],
+    pub totals: [i64; 2],
+}
+
+// The loss session of a state.
+pub fn session_of(run: &[u32; 15], totals: &[i64; 2]) -> LossSession
+    ensures { λ r. ⌜ r ≡ sessionIn (now (run .entry)) (now (totals .entry)) ⌝ }
+{
+    let near = totals[NEAR];
+    let far = totals[FAR];
+    LossSession {
+        kept: run[KEPT],
+        intervals: run[INTERVALS],
+        last: Readings {
+            txf: run[TXFCF],
+            rxf: run[RXFCF],
+            txb: run[TXFCB],
+            ours: run[OURS],
+        },
+        near,
+        far,
+    }
+}

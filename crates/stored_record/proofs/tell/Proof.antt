@@ -1,0 +1,31 @@
+-- `record::tell` meets its contract: each arm is its line of `told`.
+use mathlib.Core.Path.{sym, ap}
+use Rattle.stored_record.specs.Writing.{told}
+use borrow.Author.Needs.{needs}
+use Rattle.stored_record.proofs.tell.Statement.{statement}
+use Rattle.stored_record.proofs.tell.Tie as tie
+
+enum-told : tie.Need-enum-told
+enum-told c = search needs
+
+enum-told-2 : tie.Need-enum-told-2
+enum-told-2 c = search needs
+
+enum-known-answer : tie.Need-enum-known-answer
+enum-known-answer c = search needs
+
+returns : tie.Need-returns
+unfolding told
+returns c = sym (ap told (c .enum-told .given .1))
+
+returns-2 : tie.Need-returns-2
+unfolding told
+returns-2 c = sym (ap told (c .enum-told2 .given .1))
+
+returns-3 : tie.Need-returns-3
+unfolding told
+returns-3 c = sym (ap told (c .before .answer .given .1))
+
+pub tell-spec : {M : Type 1} → statement M
+tell-spec =
+    tie.close (tie.spec enum-told enum-told-2 enum-known-answer returns returns-2 returns-3)

@@ -1,0 +1,68 @@
+-- Writing a record. The paper, "Refusals": on writing, 4 comes before 3; a refused call leaves the buffer as it was; octets of the buffer
+-- after a written record stay. Definitions and the statement only.
+use Prim.Native.Nat.{ℕ, _+_, _≤_, _<_}
+use mathlib.Core.Path.{_≡_}
+use mathlib.Core.List.{List, [], _∷_}
+use mathlib.Core.Bool.{Bool, true, false, not, _||_}
+use mathlib.Core.Logic.{_↔_, _⊎_}
+use lib.Dec.{ltb}
+use lib.ListN.{length}
+use Rattle.base_laws.specs.Tests.{choose}
+use Rattle.base_laws.specs.Lists.{laid}
+use Rattle.stored_record.specs.declared.RecordAnswer.{RecordAnswer}
+use Rattle.stored_record.specs.declared.RecordAnswer.the-variants.{BreaksRule, NoRoom, Octets}
+use Rattle.stored_record.specs.declared.RecordTold.{RecordTold}
+use Rattle.stored_record.specs.Record.{recordOf}
+
+-- what is answered, and what the buffer then holds
+pub record RecordEnd : Type 0 where
+  pub answer : RecordAnswer
+  pub buffer : List ℕ
+
+abbrev pub ended : RecordAnswer → List ℕ → RecordEnd
+ended answer buffer = record { answer = answer; buffer = buffer }
+
+-- refusal 4 where the values break a rule, or two octets cannot tell the length; refusal 3; the record laid over the buffer's first octets
+unfoldable pub writeRecord : Bool → ℕ → List ℕ → List ℕ → RecordEnd
+writeRecord good kind body buffer =
+    choose (
+    (not good || ltb 65533 (length body), ended BreaksRule buffer)
+    ∷ (ltb (length buffer) (4 + length body), ended NoRoom buffer)
+    ∷ [])
+    (ended (Octets (4 + length body)) (laid 0 (recordOf kind body) buffer))
+
+-- ── in the paper's numbers ──
+
+abbrev pub numbers : ℕ → ℕ → RecordTold
+numbers refusal long = record { refusal = refusal; length = long }
+
+unfoldable pub told : RecordAnswer → RecordTold
+told BreaksRule = numbers 4 0
+told NoRoom = numbers 3 0
+told (Octets n) = numbers 0 n
+
+-- the same from what is given alone
+unfoldable pub numbersOf : Bool → List ℕ → List ℕ → RecordTold
+numbersOf good body buffer =
+    choose (
+    (not good || ltb 65533 (length body), numbers 4 0)
+    ∷ (ltb (length buffer) (4 + length body), numbers 3 0)
+    ∷ [])
+    (numbers 0 (4 + length body))
+
+-- what is said of every record that is to be written
+pub record Writes : Type 0 where
+  -- each answer exactly where its line holds and none before it
+  pub refuses-4 : (good : Bool) (kind : ℕ) (body buffer : List ℕ)
+      → (writeRecord good kind body buffer .answer ≡ BreaksRule) ↔ ((good ≡ false) ⊎ (65533 < length body))
+  pub refuses-3 : (good : Bool) (kind : ℕ) (body buffer : List ℕ)
+      → (writeRecord good kind body buffer .answer ≡ NoRoom) ↔ ((good ≡ true) × (length body ≤ 65533) × (length buffer < 4 + length body))
+  -- neither touches the buffer
+  pub refused : (good : Bool) (kind : ℕ) (body buffer : List ℕ)
+      → ((told (writeRecord good kind body buffer .answer) .refusal ≡ 0) → ⊥) → writeRecord good kind body buffer .buffer ≡ buffer
+  -- any other record is written, and the octets behind it stay
+  pub writes : (kind : ℕ) (body buffer : List ℕ) → length body ≤ 65533 → 4 + length body ≤ length buffer
+      → writeRecord true kind body buffer ≡ ended (Octets (4 + length body)) (laid 0 (recordOf kind body) buffer)
+  -- the answer is told in these numbers; beside a refusal the length is 0
+  pub agree : (good : Bool) (kind : ℕ) (body buffer : List ℕ) → told (writeRecord good kind body buffer .answer) ≡ numbersOf good body buffer
+  pub zeros : (answer : RecordAnswer) → ((told answer .refusal ≡ 0) → ⊥) → told answer .length ≡ 0

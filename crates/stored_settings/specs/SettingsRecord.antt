@@ -1,0 +1,98 @@
+-- The stored record of kind 1, settings, read and written. The paper, "Stored records" and "Refusals": reading gives 7, writing 4 and then 3; any
+-- other value beside a refusal is 0; what is written reads back, and what is read writes back as the same octets. Definitions and the
+-- statement only.
+use Prim.Native.Nat.{ℕ, _+_, _≤_, _<_}
+use mathlib.Core.Path.{_≡_}
+use mathlib.Core.List.{List, [], _∷_, _++_}
+use mathlib.Core.Bool.{not}
+use mathlib.Core.Logic.{_↔_, _⊎_}
+use lib.ListN.{length, replicate}
+use Rattle.base_laws.specs.Tests.{choose}
+use Rattle.base_laws.specs.Lists.{part, laid}
+use Rattle.base_octets.specs.Numbers.{Octets}
+use Rattle.state_settings.specs.Settings.{Settings, slots, settingsOf, Shaped}
+use Rattle.state_settings.specs.Valid.{Valid, valid}
+use Rattle.stored_record.specs.declared.RecordAnswer.the-variants as stored
+use Rattle.stored_record.specs.declared.RecordTold.{RecordTold}
+use Rattle.stored_record.specs.Record.{recordOf, isRecord, IsRecord, NoRecord}
+use Rattle.stored_record.specs.Writing.{RecordEnd, ended, writeRecord, told, numbersOf}
+use Rattle.stored_settings_body.specs.declared.SettingsRead.{SettingsRead}
+use Rattle.stored_settings_body.specs.Body.{settingsBody, bodyLength, settingsIn, FieldsHold}
+use Rattle.stored_settings_body.specs.Lying.{given}
+
+-- the octets of a body with as many slots as a box has, and of the whole record
+abbrev pub bodySize : ℕ
+bodySize = bodyLength slots
+
+abbrev pub recordSize : ℕ
+recordSize = 4 + bodySize
+
+-- the record of settings
+abbrev pub settingsRecord : Settings → List ℕ
+settingsRecord s = recordOf 1 (settingsBody s)
+
+-- the settings in the octets of a record, behind the four of its head
+abbrev pub settingsAt : List ℕ → Settings
+settingsAt octets = settingsIn slots (part 4 bodySize octets)
+
+-- ── reading ──
+
+-- refusal 7, and every value 0
+abbrev pub refusedRead : SettingsRead
+refusedRead = record { refusal = 7; set = replicate 4 0; names = replicate 60 0; ids = replicate slots 0 }
+
+-- the settings in the arrays of a read
+abbrev pub settingsRead : SettingsRead → Settings
+settingsRead r = settingsOf (r .set) (r .names) (r .ids)
+
+-- refused where there is no whole record of kind 1 with such a body, or its settings break a rule; else they are given
+unfoldable pub readSettings : List ℕ → SettingsRead
+readSettings octets =
+    choose (
+    (not (isRecord 1 bodySize octets), refusedRead)
+    ∷ (not (valid (settingsAt octets)), refusedRead)
+    ∷ [])
+    (given (settingsAt octets))
+
+-- ── writing ──
+
+-- the record of the settings, if they keep the rules
+unfoldable pub writeSettings : Settings → List ℕ → RecordEnd
+writeSettings s buffer = writeRecord (valid s) 1 (settingsBody s) buffer
+
+-- and the numbers that it is told in
+abbrev pub writtenNumbers : Settings → List ℕ → RecordTold
+writtenNumbers s buffer = numbersOf (valid s) (settingsBody s) buffer
+
+-- what is said of every record of settings
+pub record SettingsRecords : Type 0 where
+  -- its length field holds 83
+  pub length-is : 2 + bodySize ≡ 83
+  -- no number of valid settings is too large for its field
+  pub fits : (s : Settings) → Valid s → Shaped slots s → FieldsHold s
+  -- settings that a body holds, valid or not, are read off their arrays as they stand
+  pub taken : (body : List ℕ) → bodySize ≤ length body → settingsRead (given (settingsIn slots body)) ≡ settingsIn slots body
+  -- 7 exactly where the head is wrong, the record is cut short, or the settings break a rule; and beside it every value is 0
+  pub refuses-7 : (octets : List ℕ) → (readSettings octets .refusal ≡ 7) ↔ (NoRecord 1 bodySize octets ⊎ (Valid (settingsAt octets) → ⊥))
+  pub zeros : (octets : List ℕ) → readSettings octets .refusal ≡ 7 → readSettings octets ≡ refusedRead
+  -- else there is no refusal, and the settings in the record are given
+  pub gives : (octets : List ℕ) → IsRecord 1 bodySize octets → Valid (settingsAt octets)
+      → (readSettings octets .refusal ≡ 0) × (settingsRead (readSettings octets) ≡ settingsAt octets)
+  -- settings that are written read back, whatever stands behind them, and so from the buffer that they are written into
+  pub written : (s : Settings) (rest : List ℕ) → Valid s → Shaped slots s
+      → (readSettings (settingsRecord s ++ rest) .refusal ≡ 0) × (settingsRead (readSettings (settingsRecord s ++ rest)) ≡ s)
+  pub back : (s : Settings) (buffer : List ℕ) → Valid s → Shaped slots s → recordSize ≤ length buffer → settingsRead (readSettings (writeSettings s buffer .buffer)) ≡ s
+  -- settings that are read keep the rules, and write back as the same octets
+  pub kept : (octets : List ℕ) → readSettings octets .refusal ≡ 0 → Valid (settingsRead (readSettings octets))
+  pub again : (octets : List ℕ) → Octets octets → readSettings octets .refusal ≡ 0
+      → part 0 recordSize octets ≡ settingsRecord (settingsRead (readSettings octets))
+  -- what stands behind the record is not looked at
+  pub front-alone : (octets rest : List ℕ) → recordSize ≤ length octets → readSettings (octets ++ rest) ≡ readSettings octets
+  -- 4 exactly where a rule is broken, else 3 exactly where the buffer is shorter than the record; neither touches it
+  pub refuses-4 : (s : Settings) (buffer : List ℕ) → Shaped slots s → (writeSettings s buffer .answer ≡ stored.BreaksRule) ↔ (Valid s → ⊥)
+  pub refuses-3 : (s : Settings) (buffer : List ℕ) → Shaped slots s
+      → (writeSettings s buffer .answer ≡ stored.NoRoom) ↔ (Valid s × (length buffer < recordSize))
+  pub refused : (s : Settings) (buffer : List ℕ) → (told (writeSettings s buffer .answer) .refusal ≡ 0 → ⊥) → writeSettings s buffer .buffer ≡ buffer
+  -- any other settings are written, and the octets behind their record stay
+  pub writes : (s : Settings) (buffer : List ℕ) → Valid s → Shaped slots s → recordSize ≤ length buffer
+      → writeSettings s buffer ≡ ended (stored.Octets recordSize) (laid 0 (settingsRecord s) buffer)

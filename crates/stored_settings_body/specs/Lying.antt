@@ -1,0 +1,29 @@
+-- How settings lie in memory: the words but the IDs, the names, the IDs. Definitions and the statement only.
+use Prim.Native.Nat.{ℕ}
+use mathlib.Core.Path.{_≡_}
+use mathlib.Core.List.{List, [], _∷_, _++_}
+use lib.ListN.{length}
+use Rattle.state_settings.specs.Settings.{Settings, settingsOf, Shaped}
+use Rattle.stored_settings_body.specs.declared.SettingsRead.{SettingsRead}
+
+-- level, MEP ID, period code, peer count
+abbrev pub setOf : Settings → List ℕ
+setOf s = s .level ∷ s .mep ∷ s .period ∷ s .count ∷ []
+
+-- own address, loss peer, MEG ID
+abbrev pub namesOf : Settings → List ℕ
+namesOf s = s .own ++ s .losspeer ++ s .meg
+
+-- no refusal, and the settings as they lie in their arrays: an equation for each
+abbrev pub given : Settings → SettingsRead
+given s = record { refusal = 0; set = setOf s; names = namesOf s; ids = s .ids }
+
+-- what is said of settings in memory, for any number of slots
+pub record Lying : Type 0 where
+  -- settings of these lengths are read off as what they are
+  pub back : (n : ℕ) (s : Settings) → Shaped n s → settingsOf (setOf s) (namesOf s) (s .ids) ≡ s
+  -- and arrays of four words and 60 octets hold nothing else: they lie in one way
+  pub again : (set names ids : List ℕ) → length set ≡ 4 → length names ≡ 60
+      → (setOf (settingsOf set names ids) ≡ set) × (namesOf (settingsOf set names ids) ≡ names)
+  -- 60 octets of names give them their lengths
+  pub shaped : (set names ids : List ℕ) → length names ≡ 60 → Shaped (length ids) (settingsOf set names ids)

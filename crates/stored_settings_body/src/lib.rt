@@ -1,0 +1,73 @@
+// The body of a stored record of settings, read into the three arrays in which settings lie. Nothing is tested here.
+ghost use mathlib.Core.Path.{_≡_};
+ghost use Prim.Native.Nat.{_*_, _≤_};
+ghost use lib.ListN.{length};
+ghost use Rattle.state_settings.specs.Settings.{slots};
+ghost use Rattle.stored_settings_body.specs.Body.{idsIn, bodyLength, settingsIn};
+ghost use Rattle.stored_settings_body.specs.Lying.{namesOf, given};
+use base_octets::numbers::read_little;
+use base_octets::parts::copy_octets;
+use state_settings::PEERS;
+
+// Where the IDs begin in the body.
+pub const IDS: usize = 65;
+
+// The octets of the body.
+pub const BODY: usize = IDS + 2 * PEERS;
+
+// What reading a record is answered: the refusal, or 0, and the settings as they lie in their arrays, all 0 beside a refusal.
+#[repr(C)]
+pub struct SettingsRead {
+    pub refusal: u32,
+    pub set: [u32; 4],
+    pub names: [u8; 60],
+    pub ids: [u32; PEERS],
+}
+
+// Reads an ID for each place of `ids` from the octets' front, two octets each.
+fn read_ids(ids: &mut [u32], from: &[u8])
+    requires { ⌜ 2 * length (now ids) ≤ length (now from) ⌝ }
+    ensures { λ _. ⌜ now (ids .exit) ≡ idsIn (length (now (ids .entry))) (now (from .entry)) ⌝ }
+{
+    let n = ids.len();
+    let mut i: usize = 0;
+    while i < n {
+        ids[i] = read_little(from, 2 * i, 2);
+        i += 1;
+    }
+}
+
+// The names of a body as they lie in memory: own address, loss peer, MEG ID.
+fn names_of(body: &[u8]) -> [u8; 60]
+    requires { ⌜ bodyLength slots ≤ length (now body) ⌝ }
+    ensures { λ r. ⌜ r ≡ namesOf (settingsIn slots (now (body .entry))) ⌝ }
+{
+    let mut names = [0u8; 60];
+    copy_octets(&mut names, 0, &body[3..9]);
+    copy_octets(&mut names, 6, &body[58..64]);
+    copy_octets(&mut names, 12, &body[10..58]);
+    names
+}
+
+// The settings that a body holds, taken as they stand: nothing is tested.
+pub fn settings_of(body: &[u8; BODY]) -> SettingsRead
+    ensures { λ r. ⌜ r ≡ given (settingsIn slots (now (body .entry))) ⌝ }
+{
+    let all: &[u8] = body;
+    // level, MEP ID, period code, peer count
+    let set = [
+        read_little(all, 0, 1),
+        read_little(all, 1, 2),
+        read_little(all, 9, 1),
+        read_little(all, 64, 1),
+    ];
+    let names = names_of(all);
+    let mut ids = [0u32; PEERS];
+    read_ids(&mut ids, &all[IDS..]);
+    SettingsRead {
+        refusal: 0,
+        set,
+        names,
+        ids,
+    }
+}

@@ -1,0 +1,10 @@
+// The text of a sheet: what it is stands in specs/; its first line is all the code there is.
+ghost use mathlib.Core.Path.{_≡_};
+ghost use Rattle.stored_sheet.specs.Sheet.{headerText};
+
+// The first line of a sheet.
+pub fn header() -> [u8; 19]
+    ensures { λ r. ⌜ r ≡ headerText ⌝ }
+{
+    *b"intervals near far\n"
+}

@@ -1,0 +1,46 @@
+-- The text of a chunk, written into a buffer. Definitions and the statement only.
+use Prim.Native.Nat.{ℕ, _+_, _*_, _≤_, _<_}
+use mathlib.Core.Path.{_≡_}
+use mathlib.Core.List.{List, [], _∷_}
+use mathlib.Core.Bool.{true, false}
+use mathlib.Core.Logic.{_↔_}
+use lib.Dec.{ltb}
+use lib.ListN.{length}
+use Rattle.base_laws.specs.Tests.{choose}
+use Rattle.base_laws.specs.Lists.{laid}
+use Rattle.stored_sheet_lines.specs.declared.Lines.{Lines}
+use Rattle.stored_sheet_lines.specs.declared.Lines.the-variants.{NoRoom, All, Stopped}
+use Rattle.stored_sheet.specs.Sheet.{textOf, allGood}
+
+-- what is answered, and what the buffer then holds
+pub record LinesEnd : Type 0 where
+  pub answer : Lines
+  pub buffer : List ℕ
+
+abbrev pub ended : Lines → List ℕ → LinesEnd
+ended answer buffer = record { answer = answer; buffer = buffer }
+
+-- the room that is asked for: a line has at most 63 octets, fewer than three for each of its record's 24
+abbrev pub room : List ℕ → ℕ
+room octets = 3 * length octets + 63
+
+-- too little room; the text of all; the text up to a bad record
+unfoldable pub writeLines : List ℕ → List ℕ → LinesEnd
+writeLines octets buffer =
+    choose (
+    (ltb (length buffer) (room octets), ended NoRoom buffer)
+    ∷ (allGood octets, ended (All (length (textOf octets))) (laid 0 (textOf octets) buffer))
+    ∷ [])
+    (ended (Stopped (length (textOf octets))) (laid 0 (textOf octets) buffer))
+
+-- what is said of every chunk
+pub record Chunks : Type 0 where
+  -- the text has room there
+  pub fits : (octets : List ℕ) → length (textOf octets) ≤ room octets
+  -- refused exactly where there is less room, and the buffer is not touched
+  pub no-room : (octets buffer : List ℕ) → (writeLines octets buffer .answer ≡ NoRoom) ↔ (length buffer < room octets)
+  pub untouched : (octets buffer : List ℕ) → length buffer < room octets → writeLines octets buffer .buffer ≡ buffer
+  -- otherwise the text stands in front, and the answer tells whether a bad record was met
+  pub written : (octets buffer : List ℕ) → room octets ≤ length buffer → writeLines octets buffer .buffer ≡ laid 0 (textOf octets) buffer
+  pub all : (octets buffer : List ℕ) → room octets ≤ length buffer → allGood octets ≡ true → writeLines octets buffer .answer ≡ All (length (textOf octets))
+  pub stopped : (octets buffer : List ℕ) → room octets ≤ length buffer → allGood octets ≡ false → writeLines octets buffer .answer ≡ Stopped (length (textOf octets))

@@ -99,7 +99,7 @@ def ticks_of(timed):
 
 
 def run_text_of(capture):
-    """The run, in the text form of tests/runs."""
+    """The run, in the text form of tools/README.md."""
     timed = pcap.timed_frames(capture)
     run, ticks = Run(), ticks_of(timed)
     for number, ((_, _, frame), tick) in enumerate(zip(timed[:-1], ticks), 1):

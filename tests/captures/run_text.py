@@ -1,4 +1,4 @@
-"""A run in its text form (tests/runs/README.md): its calls by name and fields, and the line expected of each.
+"""A run in its text form (tools/README.md): its calls by name and fields, and the line expected of each.
 
 Frames are not built here: what the box sends stands in hex behind the bar of the expected line, what it was asked in the call's fields."""
 import re

@@ -1,4 +1,5 @@
-// The bit fields of a PDU by shift and mask: what is promised is said in `/` and `%`.
+// Bit fields of octets by shift and mask: level and version, flags, MEP ID.
+// What is promised is said in `/` and `%`.
 ghost use mathlib.Core.Path.{_≡_};
 ghost use Prim.Native.Nat.{_+_, _*_, _/_, _%_, _<_};
 

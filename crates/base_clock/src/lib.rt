@@ -1,1 +1,1 @@
-// Time: any timer, any period, any field of a state over any run of calls. Definitions in specs/, their laws in proofs/. No code.
+// Time: any timer, any hold time, any period, any field of a state over any run of calls: definitions and laws, no code.

@@ -1,5 +1,6 @@
-// Words that differ: from one word, and from each other. The test that stands in every call, is_absent, goes to the end without a way out:
-// a loop of a fixed length becomes a few vector instructions.
+// Whether words differ from each other, and whether one stands among others.
+// The test that stands in every call, is_absent, goes to the end without a way out: a loop of a fixed length becomes a few vector
+// instructions.
 ghost use mathlib.Core.Path.{_≡_};
 ghost use Rattle.base_laws.specs.Lists.{absent, distinct};
 

@@ -1,5 +1,6 @@
-// The decimal text of a signed number, written into a buffer at a place: the inner loop of what prints records. One division for each digit,
-// straight to its place; that place is known because the digits are counted first.
+// The decimal text of a signed number, written into a buffer digit by digit.
+// It is the inner loop of what prints records: one division for each digit, straight to its place; that place is known because the digits
+// are counted first.
 ghost use mathlib.Core.Path.{_≡_};
 ghost use mathlib.Core.List.{_∷_};
 ghost use Prim.Native.Nat.{_+_, _^_, _≤_, _<_};

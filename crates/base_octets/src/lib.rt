@@ -1,3 +1,4 @@
-// Numbers in octets, and runs of octets copied. Inner: callers meet the `requires`.
+// Numbers in octets, on the wire and in stored records, read and written at a place; runs of octets copied.
+// Inner: callers meet the `requires`.
 pub mod numbers;
 pub mod parts;

@@ -1,4 +1,4 @@
-// How often a CCM, AIS or LCK is sent, and how long one holds, in ticks of 1/600 s.
+// The seven periods: how often a CCM, AIS or LCK is sent, and how long one holds, in ticks of 1/600 s.
 ghost use mathlib.Core.Path.{_≡_};
 ghost use Rattle.base_period.specs.Periods.{ticksOf, holdOf, periodOf};
 

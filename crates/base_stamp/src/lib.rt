@@ -1,4 +1,4 @@
-// Stamps of any content, as the wire and the caller have them. The paper, "Numbers".
+// Stamps of any content, as the wire and the caller have them: good, given. The paper, "Numbers".
 ghost use mathlib.Core.Path.{_≡_};
 ghost use Rattle.base_stamp.specs.Stamps.{good, given};
 

@@ -1,4 +1,5 @@
-// A word of a line of text, put into a buffer at a place. Numbers are in `decimal`, octets in `hex`.
+// A word of a line of text, put into a buffer at a place.
+// Numbers are in `base_number_write`, octets in `base_hex`.
 ghost use mathlib.Core.Path.{_≡_};
 ghost use Rattle.base_number_text.specs.Put.{putAt, behind};
 use base_octets::parts::copy_octets;

@@ -1,5 +1,6 @@
-// Runs of words: held to a bound, and searched. The test that stands in every call, all_within, goes to the end without a way out:
-// a loop of a fixed length becomes a few vector instructions.
+// Runs of words: held to a bound, and searched.
+// The test that stands in every call, all_within, goes to the end without a way out: a loop of a fixed length becomes a few vector
+// instructions.
 ghost use mathlib.Core.Path.{_≡_};
 ghost use Rattle.base_laws.specs.Lists.{every, placeOf};
 ghost use Rattle.base_words.specs.Words.{within};

@@ -1,6 +1,6 @@
 // A clear: the loss session starts anew, and nothing else of the state changes.
 ghost use mathlib.Core.Path.{_≡_};
-ghost use Rattle.state_view.specs.State.{lying};
+ghost use Rattle.state_view.specs.State.{before, afterSession};
 ghost use Rattle.state_places.specs.Stored.{Whole};
 ghost use Rattle.call_clear.specs.Clear.{ended, clearOf, told, numbersOf};
 use loss_session::cleared;
@@ -31,7 +31,8 @@ pub fn clear(
     run: &mut [u32; 15],
     totals: &mut [i64; 2],
 ) -> ClearAnswer
-    ensures { λ r. ⌜ (ended r (lying (set .entry) (names .entry) (ids .entry) (timers .entry) (rdi .entry) (run .exit) (totals .exit)) ≡ clearOf (lying (set .entry) (names .entry) (ids .entry) (timers .entry) (rdi .entry) (run .entry) (totals .entry))) × (told r ≡ numbersOf (lying (set .entry) (names .entry) (ids .entry) (timers .entry) (rdi .entry) (run .entry) (totals .entry))) ⌝ }
+    ensures { λ r. ⌜ (ended r (afterSession set names ids timers rdi run totals) ≡ clearOf (before set names ids timers rdi run totals))
+        × (told r ≡ numbersOf (before set names ids timers rdi run totals)) ⌝ }
     ensures { λ _. ⌜ Whole (now (run .exit)) (now (totals .exit)) ⌝ }
 {
     // a view of an array tells its length, and costs nothing

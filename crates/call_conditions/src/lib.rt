@@ -1,8 +1,9 @@
-// Which conditions stand: each of them, for whoever asks. The call only reads the state.
+// Which conditions stand, each by itself, for whoever asks.
+// The call only reads the state.
 // The answer is a struct with the refusal's number in it, and no enum: an enum that holds an array is not covered by the toolchain.
 ghost use mathlib.Core.Path.{_≡_};
 ghost use Rattle.state_settings.specs.Settings.{slots};
-ghost use Rattle.state_view.specs.State.{lying};
+ghost use Rattle.state_view.specs.State.{before};
 ghost use Rattle.call_conditions.specs.Conditions.{table, lostAt, shownOf, conditionsOf, noConditions};
 use state_settings::COUNT;
 use state_settings::PEERS;
@@ -59,7 +60,7 @@ fn shown(
     run: &[u32; 15],
     totals: &[i64; 2],
 ) -> ConditionFlags
-    ensures { λ r. ⌜ r ≡ shownOf (lying (set .entry) (names .entry) (ids .entry) (timers .entry) (rdi .entry) (run .entry) (totals .entry)) ⌝ }
+    ensures { λ r. ⌜ r ≡ shownOf (before set names ids timers rdi run totals) ⌝ }
 {
     let mut lost = [0u32; PEERS];
     mark_lost(&mut lost, timers, set[COUNT]);
@@ -102,7 +103,7 @@ pub fn conditions(
     run: &[u32; 15],
     totals: &[i64; 2],
 ) -> ConditionsTold
-    ensures { λ r. ⌜ r ≡ conditionsOf (lying (set .entry) (names .entry) (ids .entry) (timers .entry) (rdi .entry) (run .entry) (totals .entry)) ⌝ }
+    ensures { λ r. ⌜ r ≡ conditionsOf (before set names ids timers rdi run totals) ⌝ }
 {
     if !is_well_formed(set, names, ids, timers, rdi, run, totals) {
         return ConditionsTold {

@@ -1,6 +1,7 @@
-// Send DMM: the caller asks for a DMM to the loss peer. The state is only read.
+// Send DMM: the caller asks for a DMM to the loss peer, with its stamp.
+// The state is only read.
 ghost use mathlib.Core.Path.{_≡_};
-ghost use Rattle.state_view.specs.State.{lying};
+ghost use Rattle.state_view.specs.State.{before};
 ghost use Rattle.base_stamp.specs.Stamps.{Wire};
 ghost use Rattle.call_send_answer.specs.Told.{dmmTold};
 ghost use Rattle.call_send_dmm.specs.Dmm.{dmmEnded, sendDmm, dmmNumbers};
@@ -25,7 +26,8 @@ pub fn send_dmm(
     stamp: Stamp,
     out: &mut [u8],
 ) -> DmmAnswer
-    ensures { λ r. ⌜ (dmmEnded r (now (out .exit)) ≡ sendDmm (lying (set .entry) (names .entry) (ids .entry) (timers .entry) (rdi .entry) (run .entry) (totals .entry)) stamp (now (out .entry))) × (dmmTold r ≡ dmmNumbers (lying (set .entry) (names .entry) (ids .entry) (timers .entry) (rdi .entry) (run .entry) (totals .entry)) stamp (now (out .entry))) ⌝ }
+    ensures { λ r. ⌜ (dmmEnded r (now (out .exit)) ≡ sendDmm (before set names ids timers rdi run totals) stamp (now (out .entry)))
+        × (dmmTold r ≡ dmmNumbers (before set names ids timers rdi run totals) stamp (now (out .entry))) ⌝ }
     ensures { λ _. ⌜ Wire stamp ⌝ }
 {
     if !is_well_formed(set, names, ids, timers, rdi, run, totals) {

@@ -1,6 +1,7 @@
-// Send LMM: the caller asks for an LMM to the loss peer. The state is only read.
+// Send LMM: the caller asks for an LMM to the loss peer, with our sent count.
+// The state is only read.
 ghost use mathlib.Core.Path.{_≡_};
-ghost use Rattle.state_view.specs.State.{lying};
+ghost use Rattle.state_view.specs.State.{before};
 ghost use Rattle.call_send_answer.specs.Told.{lmmTold};
 ghost use Rattle.call_send_lmm.specs.Lmm.{lmmEnded, sendLmm, lmmNumbers};
 use call_send_answer::LmmAnswer;
@@ -22,7 +23,8 @@ pub fn send_lmm(
     totals: &[i64; 2],
     out: &mut [u8],
 ) -> LmmAnswer
-    ensures { λ r. ⌜ (lmmEnded r (now (out .exit)) ≡ sendLmm (lying (set .entry) (names .entry) (ids .entry) (timers .entry) (rdi .entry) (run .entry) (totals .entry)) (now (out .entry))) × (lmmTold r ≡ lmmNumbers (lying (set .entry) (names .entry) (ids .entry) (timers .entry) (rdi .entry) (run .entry) (totals .entry)) (now (out .entry))) ⌝ }
+    ensures { λ r. ⌜ (lmmEnded r (now (out .exit)) ≡ sendLmm (before set names ids timers rdi run totals) (now (out .entry)))
+        × (lmmTold r ≡ lmmNumbers (before set names ids timers rdi run totals) (now (out .entry))) ⌝ }
 {
     if !is_well_formed(set, names, ids, timers, rdi, run, totals) {
         return LmmAnswer::NotWellFormed;

@@ -1,5 +1,6 @@
-// A new setting: the state that it starts with, or the all-zero state where it is not valid. Settings are lent for reading and the state is
-// handed out by value, so that a refusal leaves all that was handed over: a box that runs is not touched by a setting that breaks a rule.
+// A new setting: the state that it starts with, or the all-zero state where it is not valid, handed out by value.
+// Settings are lent for reading, so that a refusal leaves all that was handed over: a box that runs is not touched by a setting that breaks
+// a rule.
 ghost use mathlib.Core.Path.{_≡_};
 ghost use Rattle.base_laws.specs.Lists.{onFirst};
 ghost use Rattle.state_settings.specs.Settings.{slots, settingsOf, Shaped};

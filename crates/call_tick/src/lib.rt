@@ -1,6 +1,7 @@
-// A tick: every timer is lowered, and on the last tick of a period a CCM is sent. Where its buffer is too short the tick has not passed.
+// A tick: every timer is lowered, and on the last tick of a period a CCM is sent.
+// Where its buffer is too short the tick has not passed.
 ghost use mathlib.Core.Path.{_≡_};
-ghost use Rattle.state_view.specs.State.{lying};
+ghost use Rattle.state_view.specs.State.{before, afterTick};
 ghost use Rattle.state_places.specs.Stored.{Whole};
 ghost use Rattle.call_send_answer.specs.Told.{tickTold};
 ghost use Rattle.call_tick.specs.Tick.{ended, tickOf, numbersOf};
@@ -27,7 +28,8 @@ pub fn tick(
     totals: &[i64; 2],
     out: &mut [u8],
 ) -> TickAnswer
-    ensures { λ r. ⌜ (ended r (lying (set .entry) (names .entry) (ids .entry) (timers .exit) (rdi .entry) (run .exit) (totals .entry)) (now (out .exit)) ≡ tickOf (lying (set .entry) (names .entry) (ids .entry) (timers .entry) (rdi .entry) (run .entry) (totals .entry)) (now (out .entry))) × (tickTold r ≡ numbersOf (lying (set .entry) (names .entry) (ids .entry) (timers .entry) (rdi .entry) (run .entry) (totals .entry)) (now (out .entry))) ⌝ }
+    ensures { λ r. ⌜ (ended r (afterTick set names ids timers rdi run totals) (now (out .exit)) ≡ tickOf (before set names ids timers rdi run totals) (now (out .entry)))
+        × (tickTold r ≡ numbersOf (before set names ids timers rdi run totals) (now (out .entry))) ⌝ }
     ensures { λ _. ⌜ Whole (now (run .exit)) (now (totals .entry)) ⌝ }
 {
     // a view of an array tells its length, and costs nothing

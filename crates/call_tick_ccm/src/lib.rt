@@ -1,7 +1,7 @@
 // The CCM that a state sends: our own address, MEG ID and MEP ID, and RDI where any condition stands.
 ghost use mathlib.Core.Path.{_≡_};
 ghost use lib.ListN.{length};
-ghost use Rattle.state_view.specs.State.{lying};
+ghost use Rattle.state_view.specs.State.{before};
 ghost use Rattle.message_parts.specs.Buffer.{writtenOf, bufferOf, told, numbersOf};
 ghost use Rattle.call_tick_ccm.specs.Ccm.{ccmOf};
 use message_ccm::CcmValues;
@@ -25,8 +25,10 @@ pub fn write_own_ccm(
     totals: &[i64; 2],
     out: &mut [u8],
 ) -> Written
-    ensures { λ r. ⌜ (r ≡ writtenOf (ccmOf (lying (set .entry) (names .entry) (ids .entry) (timers .entry) (rdi .entry) (run .entry) (totals .entry))) (now (out .entry))) × (told r ≡ numbersOf (ccmOf (lying (set .entry) (names .entry) (ids .entry) (timers .entry) (rdi .entry) (run .entry) (totals .entry))) (now (out .entry))) ⌝ }
-    ensures { λ _. ⌜ (now (out .exit) ≡ bufferOf (ccmOf (lying (set .entry) (names .entry) (ids .entry) (timers .entry) (rdi .entry) (run .entry) (totals .entry))) (now (out .entry))) × (length (ccmOf (lying (set .entry) (names .entry) (ids .entry) (timers .entry) (rdi .entry) (run .entry) (totals .entry))) ≡ 89) ⌝ }
+    ensures { λ r. ⌜ (r ≡ writtenOf (ccmOf (before set names ids timers rdi run totals)) (now (out .entry)))
+        × (told r ≡ numbersOf (ccmOf (before set names ids timers rdi run totals)) (now (out .entry))) ⌝ }
+    ensures { λ _. ⌜ (now (out .exit) ≡ bufferOf (ccmOf (before set names ids timers rdi run totals)) (now (out .entry)))
+        × (length (ccmOf (before set names ids timers rdi run totals)) ≡ 89) ⌝ }
 {
     let stands = any_stands(set, names, ids, timers, rdi, run, totals);
     let ccm = CcmValues {

@@ -1,9 +1,9 @@
-// Timers: each of them one tick later, in place.
+// What a tick lowers: every timer one tick later, where it lies.
 ghost use mathlib.Core.Path.{_≡_};
 ghost use mathlib.Core.List.{map};
 ghost use Prim.Native.Nat.{_-_};
 ghost use Rattle.base_laws.specs.Lists.{onFirst};
-ghost use Rattle.state_view.specs.State.{lying};
+ghost use Rattle.state_view.specs.State.{before, afterTick};
 ghost use Rattle.state_view.specs.Changed.{next, put, lowered};
 ghost use Rattle.state_places.specs.Stored.{Whole};
 use state_settings::PEERS;
@@ -56,7 +56,7 @@ pub fn pass_tick(
     totals: &[i64; 2],
     left: u32,
 )
-    ensures { λ _. ⌜ lying (set .entry) (names .entry) (ids .entry) (timers .exit) (rdi .entry) (run .exit) (totals .entry) ≡ put next left (lowered (lying (set .entry) (names .entry) (ids .entry) (timers .entry) (rdi .entry) (run .entry) (totals .entry))) ⌝ }
+    ensures { λ _. ⌜ afterTick set names ids timers rdi run totals ≡ put next left (lowered (before set names ids timers rdi run totals)) ⌝ }
     ensures { λ _. ⌜ Whole (now (run .exit)) (now (totals .entry)) ⌝ }
 {
     // a view of an array tells its length, and costs nothing

@@ -1,4 +1,5 @@
-// The two addresses of a frame, each as that part of the frame. Each answers for any octets.
+// Destination and source of a frame, each as that part of the frame.
+// Each answers for any octets.
 ghost use mathlib.Core.Path.{_≡_};
 ghost use denote.Ref.{ptr};
 ghost use Rattle.frame_head.specs.Head.{destinationOf, sourceOf, placeOrStart};

@@ -1,4 +1,5 @@
-// The fields of a CCM. All are 0, and the MEG ID is empty, where the frame is bad or another message; `frame_message::message_answer` tells which.
+// The fields of a CCM, its MEG ID among them.
+// All are 0, and the MEG ID is empty, where the frame is bad or another message; `frame_message::message_answer` tells which.
 ghost use mathlib.Core.Path.{_≡_};
 ghost use denote.Ref.{ptr};
 ghost use Rattle.frame_ccm.specs.Ccm.{ccmOf, megOf, megPlace};

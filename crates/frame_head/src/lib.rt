@@ -1,2 +1,3 @@
-// A frame's head: where its PDU stands. Nothing here knows of messages, settings or state, and no function asks anything of its caller.
+// A frame's head: where its PDU stands.
+// Nothing here knows of messages, settings or state, and no function asks anything of its caller.
 pub mod head;

@@ -1,4 +1,5 @@
-// What stands before the TLVs of a frame: refusal 1, D1, D3 and D4, or where the TLVs start. It asks nothing of its caller.
+// What stands before the TLVs of a frame: refusal 1, D1, D3 and D4, or where the TLVs start.
+// It asks nothing of its caller.
 ghost use mathlib.Core.Path.{_≡_};
 ghost use Rattle.frame_judge.specs.Judge.{judgePdu, judge};
 use base_octets::numbers::read_big;

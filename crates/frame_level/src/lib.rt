@@ -1,4 +1,5 @@
-// Level and version, in the first octet of a PDU. Each answers for any octets.
+// Level and version of a frame, in the first octet of its PDU.
+// Each answers for any octets.
 ghost use mathlib.Core.Path.{_≡_};
 ghost use Rattle.frame_head.specs.Head.{pduOf, levelOf, versionOf};
 use base_bits::level_of;

@@ -1,5 +1,5 @@
-// The fields of the messages that measure: the counts of LMM and LMR, the stamps of DMM and DMR. All are 0 where the frame is bad or another
-// message; `frame_message::message_answer` tells which.
+// The fields of the messages that measure: the counts of LMM and LMR, the stamps of DMM and DMR.
+// All are 0 where the frame is bad or another message; `frame_message::message_answer` tells which.
 ghost use mathlib.Core.Path.{_≡_};
 ghost use Rattle.frame_measures.specs.Measures.{lossOf, delayOf};
 use base_octets::numbers::read_big;

@@ -1,4 +1,5 @@
-// Which message a frame is: what the reader tests, and then the period code. Nothing here knows of settings or state.
+// Which message a frame is: what the reader tests, and then the period code.
+// Nothing here knows of settings or state.
 ghost use mathlib.Core.Path.{_≡_};
 ghost use Rattle.frame_message.specs.Message.{codeGood, judgedOf, messageOf};
 ghost use Rattle.frame_message.specs.Told.{numbersOf, goodOpcode};

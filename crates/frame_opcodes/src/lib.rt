@@ -1,4 +1,5 @@
-// The table of opcodes: one match that the reader and the box both use.
+// The table of opcodes: handler, least offset, multicast address, request.
+// One match that the reader and the box both use.
 ghost use mathlib.Core.Path.{_≡_};
 ghost use Rattle.frame_opcodes.specs.Opcodes.{rule, ruleOf, known, handled};
 

@@ -1,5 +1,5 @@
-// The reader: asked for a TLV type, the value of the first such TLV as that part of the caller's frame. Nothing here knows of settings or
-// state, and no function asks anything of its caller.
+// The reader: asked for a TLV type, the value of the first such TLV as that part of the caller's frame.
+// Nothing here knows of settings or state, and no function asks anything of its caller.
 ghost use mathlib.Core.Path.{_≡_};
 ghost use denote.Ref.{ptr};
 ghost use Rattle.frame_reader_answer.specs.Told.{told};

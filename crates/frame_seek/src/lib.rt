@@ -1,4 +1,4 @@
-// The search for a TLV: asked for a type, where in a frame the value of the first such TLV stands, or why it cannot be read.
+// The search for a TLV in a frame, and D5: where the value of the first one of a type stands, or why it cannot be read.
 ghost use mathlib.Core.Path.{_≡_};
 ghost use Rattle.frame_seek.specs.Seek.{isCut, seekOf, Within};
 use frame_head::head::HEAD_LENGTH;

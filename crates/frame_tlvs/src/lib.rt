@@ -1,4 +1,5 @@
-// The TLVs of a PDU: where a walk over them stops. It knows of no frame, no opcode and no state, and asks nothing of its caller.
+// The TLVs of a PDU: where a walk over them stops.
+// It knows of no frame, no opcode and no state, and asks nothing of its caller.
 ghost use mathlib.Core.Path.{_≡_};
 ghost use Rattle.frame_tlvs.specs.Tlvs.{walkFrom, Inside};
 use base_octets::numbers::read_big;

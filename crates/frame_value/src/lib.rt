@@ -1,5 +1,5 @@
-// What the value of a TLV holds: the octets of a data TLV, the zeros of a test TLV. The value is the part of the frame that the reader hands
-// back; nothing is copied.
+// What the value of a TLV holds: the octets of a data TLV, the zeros of a test TLV.
+// The value is the part of the frame that the reader hands back; nothing is copied.
 ghost use mathlib.Core.Path.{_≡_};
 ghost use Rattle.frame_value_answer.specs.Told.{told};
 ghost use Rattle.frame_value.specs.Values.{zeroPattern, outcomeOf, sameData, zeroTest};

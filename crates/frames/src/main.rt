@@ -1,6 +1,6 @@
-// Prints what frames read as. Standard input has a frame a line, in hex: the TLV type that is asked for, then the frame's octets; blanks are
-// passed over, and `#` begins a comment. Each line prints its message with the fields, or the refusal or drop, and behind a bar what the
-// reader says of the TLV.
+// Prints what frames, given in hex, read as.
+// Standard input has a frame a line, in hex: the TLV type that is asked for, then the frame's octets; blanks are passed over, and `#`
+// begins a comment. Each line prints its message with the fields, or the refusal or drop, and behind a bar what the reader says of the TLV.
 use base_stamp::Stamp;
 use frame_ccm::ccm_fields;
 use frame_ccm::meg_id;

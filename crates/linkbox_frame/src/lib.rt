@@ -1,9 +1,9 @@
-// The C boundary, a frame to a box: on the arrays that hold the state, for firmware in C or Rust (host/linkbox). It calls the function of its room and
-// tells its answer in the paper's numbers.
-// Any content of the memory is a value. What a caller sees to is that the pointers are to memory of these sizes, and that what is written overlaps nothing
-// else that is handed over.
+// The boundary to C: a frame to a box, on the arrays that hold the state, told in the paper's numbers.
+// It is for firmware in C or Rust; linkbox.h declares it. It calls the function of its room and tells its answer.
+// Any content of the memory is a value. What a caller sees to is that the pointers are to memory of these sizes, and that what is written
+// overlaps nothing else that is handed over.
 ghost use mathlib.Core.Path.{_≡_};
-ghost use Rattle.state_view.specs.State.{lying};
+ghost use Rattle.state_view.specs.State.{before, after};
 ghost use Rattle.state_places.specs.Stored.{Whole};
 ghost use Rattle.base_stamp.specs.Stamps.{Wire};
 ghost use Rattle.receive_frame.specs.Frame.{frameOf};
@@ -41,8 +41,10 @@ pub extern "C" fn linkbox_frame(
     transmit: Stamp,
     out: &mut [u8],
 ) -> FrameTold
-    ensures { λ r. ⌜ r ≡ numbersOf (lying (set .entry) (names .entry) (ids .entry) (timers .entry) (rdi .entry) (run .entry) (totals .entry)) (sideOf side) (now (frame .entry)) receive transmit (now (out .entry)) ⌝ }
-    ensures { λ _. ⌜ (lying (set .entry) (names .entry) (ids .entry) (timers .exit) (rdi .exit) (run .exit) (totals .exit) ≡ frameOf (lying (set .entry) (names .entry) (ids .entry) (timers .entry) (rdi .entry) (run .entry) (totals .entry)) (sideOf side) (now (frame .entry)) receive transmit (now (out .entry)) .state) × (now (out .exit) ≡ frameOf (lying (set .entry) (names .entry) (ids .entry) (timers .entry) (rdi .entry) (run .entry) (totals .entry)) (sideOf side) (now (frame .entry)) receive transmit (now (out .entry)) .buffer) ⌝ }
+    ensures { λ r. ⌜ r ≡
+        numbersOf (before set names ids timers rdi run totals) (sideOf side) (now (frame .entry)) receive transmit (now (out .entry)) ⌝ }
+    ensures { λ _. ⌜ (after set names ids timers rdi run totals ≡ frameOf (before set names ids timers rdi run totals) (sideOf side) (now (frame .entry)) receive transmit (now (out .entry)) .state)
+        × (now (out .exit) ≡ frameOf (before set names ids timers rdi run totals) (sideOf side) (now (frame .entry)) receive transmit (now (out .entry)) .buffer) ⌝ }
     ensures { λ _. ⌜ Whole (now (run .exit)) (now (totals .exit)) ⌝ }
     ensures { λ _. ⌜ Wire receive × Wire transmit ⌝ }
 {

@@ -1,5 +1,6 @@
-// The C boundary, the reader of TLVs, for firmware in C or Rust (host/linkbox). It calls the function of its room and tells its answer in the paper's
-// numbers. Any content of the memory is a value. What a caller sees to is that the pointer is to memory of this size.
+// The boundary to C: the reader of TLVs, told in the paper's numbers.
+// It is for firmware in C or Rust; linkbox.h declares it. It calls the function of its room and tells its answer.
+// Any content of the memory is a value. What a caller sees to is that the pointer is to memory of this size.
 ghost use mathlib.Core.Path.{_≡_};
 ghost use Rattle.frame_reader_answer.specs.Told.{told as tlvTold};
 ghost use Rattle.frame_seek.specs.Seek.{seekOf};

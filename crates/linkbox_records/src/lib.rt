@@ -1,6 +1,7 @@
-// The C boundary, stored records: settings and loss lines read and written, for firmware in C or Rust (host/linkbox). Each calls the function of its room and tells its answer in the paper's numbers.
-// Any content of the memory is a value. What a caller sees to is that the pointers are to memory of these sizes, and that what is written overlaps nothing
-// else that is handed over.
+// The boundary to C: stored settings and loss lines read and written, told in the paper's numbers.
+// These are for firmware in C or Rust; linkbox.h declares them. Each calls the function of its room and tells its answer.
+// Any content of the memory is a value. What a caller sees to is that the pointers are to memory of these sizes, and that what is written
+// overlaps nothing else that is handed over.
 ghost use mathlib.Core.Path.{_≡_};
 ghost use Rattle.state_settings.specs.Settings.{slots, settingsOf, Shaped};
 ghost use Rattle.stored_settings.specs.SettingsRecord.{readSettings, writeSettings, writtenNumbers as settingsNumbers};

@@ -1,2 +1,2 @@
-// What C calls held against the paper: the contract of each exported function, as the check reads it off the source, leaves what the paper
-// says of the call. No code.
+// That each function for C leaves what the paper says of its call, read from its numbers: statements and proofs, no code.
+// The contract of each is taken as the check reads it off the source.

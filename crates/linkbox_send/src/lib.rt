@@ -1,9 +1,9 @@
-// The C boundary, what a box sends unasked: the CCM of a tick, an LMM and a DMM, on the arrays that hold the state, for firmware in C or Rust
-// (host/linkbox). Each calls the function of its room and tells its answer in the paper's numbers.
-// Any content of the memory is a value. What a caller sees to is that the pointers are to memory of these sizes, and that what is written overlaps nothing
-// else that is handed over.
+// The boundary to C: the CCM of a tick, an LMM and a DMM, on the arrays that hold the state, told in the paper's numbers.
+// These are for firmware in C or Rust; linkbox.h declares them. Each calls the function of its room and tells its answer.
+// Any content of the memory is a value. What a caller sees to is that the pointers are to memory of these sizes, and that what is written
+// overlaps nothing else that is handed over.
 ghost use mathlib.Core.Path.{_≡_};
-ghost use Rattle.state_view.specs.State.{lying};
+ghost use Rattle.state_view.specs.State.{before, afterTick};
 ghost use Rattle.state_places.specs.Stored.{Whole};
 ghost use Rattle.base_stamp.specs.Stamps.{Wire};
 ghost use Rattle.call_tick.specs.Tick.{tickOf, numbersOf as tickNumbers};
@@ -30,8 +30,9 @@ pub extern "C" fn linkbox_tick(
     totals: &[i64; 2],
     out: &mut [u8],
 ) -> WrittenTold
-    ensures { λ r. ⌜ r ≡ tickNumbers (lying (set .entry) (names .entry) (ids .entry) (timers .entry) (rdi .entry) (run .entry) (totals .entry)) (now (out .entry)) ⌝ }
-    ensures { λ _. ⌜ (lying (set .entry) (names .entry) (ids .entry) (timers .exit) (rdi .entry) (run .exit) (totals .entry) ≡ tickOf (lying (set .entry) (names .entry) (ids .entry) (timers .entry) (rdi .entry) (run .entry) (totals .entry)) (now (out .entry)) .state) × (now (out .exit) ≡ tickOf (lying (set .entry) (names .entry) (ids .entry) (timers .entry) (rdi .entry) (run .entry) (totals .entry)) (now (out .entry)) .buffer) ⌝ }
+    ensures { λ r. ⌜ r ≡ tickNumbers (before set names ids timers rdi run totals) (now (out .entry)) ⌝ }
+    ensures { λ _. ⌜ (afterTick set names ids timers rdi run totals ≡ tickOf (before set names ids timers rdi run totals) (now (out .entry)) .state)
+        × (now (out .exit) ≡ tickOf (before set names ids timers rdi run totals) (now (out .entry)) .buffer) ⌝ }
     ensures { λ _. ⌜ Whole (now (run .exit)) (now (totals .entry)) ⌝ }
 {
     let answer = call_tick::tick(set, names, ids, timers, rdi, run, totals, out);
@@ -50,7 +51,8 @@ pub extern "C" fn linkbox_send_lmm(
     totals: &[i64; 2],
     out: &mut [u8],
 ) -> WrittenTold
-    ensures { λ r. ⌜ (r ≡ lmmNumbers (lying (set .entry) (names .entry) (ids .entry) (timers .entry) (rdi .entry) (run .entry) (totals .entry)) (now (out .entry))) × (now (out .exit) ≡ sendLmm (lying (set .entry) (names .entry) (ids .entry) (timers .entry) (rdi .entry) (run .entry) (totals .entry)) (now (out .entry)) .buffer) ⌝ }
+    ensures { λ r. ⌜ (r ≡ lmmNumbers (before set names ids timers rdi run totals) (now (out .entry)))
+        × (now (out .exit) ≡ sendLmm (before set names ids timers rdi run totals) (now (out .entry)) .buffer) ⌝ }
 {
     let answer = send_lmm(set, names, ids, timers, rdi, run, totals, out);
     tell_lmm(answer)
@@ -69,7 +71,8 @@ pub extern "C" fn linkbox_send_dmm(
     stamp: Stamp,
     out: &mut [u8],
 ) -> WrittenTold
-    ensures { λ r. ⌜ (r ≡ dmmNumbers (lying (set .entry) (names .entry) (ids .entry) (timers .entry) (rdi .entry) (run .entry) (totals .entry)) stamp (now (out .entry))) × (now (out .exit) ≡ sendDmm (lying (set .entry) (names .entry) (ids .entry) (timers .entry) (rdi .entry) (run .entry) (totals .entry)) stamp (now (out .entry)) .buffer) ⌝ }
+    ensures { λ r. ⌜ (r ≡ dmmNumbers (before set names ids timers rdi run totals) stamp (now (out .entry)))
+        × (now (out .exit) ≡ sendDmm (before set names ids timers rdi run totals) stamp (now (out .entry)) .buffer) ⌝ }
     ensures { λ _. ⌜ Wire stamp ⌝ }
 {
     let answer = send_dmm(set, names, ids, timers, rdi, run, totals, stamp, out);

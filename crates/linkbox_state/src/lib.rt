@@ -1,10 +1,10 @@
-// The C boundary, a box's state: a new setting, a clear and what stands, on the arrays that hold the state, for firmware in C or Rust (host/linkbox).
-// Each calls the function of its room and tells its answer in the paper's numbers.
-// Any content of the memory is a value. What a caller sees to is that the pointers are to memory of these sizes, and that what is written overlaps nothing
-// else that is handed over.
+// The boundary to C: a new setting, a clear and what stands, on the arrays that hold the state, told in the paper's numbers.
+// These are for firmware in C or Rust; linkbox.h declares them. Each calls the function of its room and tells its answer.
+// Any content of the memory is a value. What a caller sees to is that the pointers are to memory of these sizes, and that what is written
+// overlaps nothing else that is handed over.
 ghost use mathlib.Core.Path.{_≡_};
 ghost use Rattle.state_settings.specs.Settings.{slots, settingsOf, Shaped};
-ghost use Rattle.state_view.specs.State.{lying};
+ghost use Rattle.state_view.specs.State.{before, afterSession};
 ghost use Rattle.state_places.specs.Stored.{Whole};
 ghost use Rattle.call_clear.specs.Clear.{clearOf, numbersOf as clearNumbers};
 ghost use Rattle.call_conditions.specs.Conditions.{conditionsOf};
@@ -51,8 +51,8 @@ pub extern "C" fn linkbox_clear(
     run: &mut [u32; 15],
     totals: &mut [i64; 2],
 ) -> u32
-    ensures { λ r. ⌜ r ≡ clearNumbers (lying (set .entry) (names .entry) (ids .entry) (timers .entry) (rdi .entry) (run .entry) (totals .entry)) .refusal ⌝ }
-    ensures { λ _. ⌜ lying (set .entry) (names .entry) (ids .entry) (timers .entry) (rdi .entry) (run .exit) (totals .exit) ≡ clearOf (lying (set .entry) (names .entry) (ids .entry) (timers .entry) (rdi .entry) (run .entry) (totals .entry)) .state ⌝ }
+    ensures { λ r. ⌜ r ≡ clearNumbers (before set names ids timers rdi run totals) .refusal ⌝ }
+    ensures { λ _. ⌜ afterSession set names ids timers rdi run totals ≡ clearOf (before set names ids timers rdi run totals) .state ⌝ }
     ensures { λ _. ⌜ Whole (now (run .exit)) (now (totals .exit)) ⌝ }
 {
     let answer = call_clear::clear(set, names, ids, timers, rdi, run, totals);
@@ -71,7 +71,7 @@ pub extern "C" fn linkbox_conditions(
     run: &[u32; 15],
     totals: &[i64; 2],
 ) -> ConditionsTold
-    ensures { λ r. ⌜ r ≡ conditionsOf (lying (set .entry) (names .entry) (ids .entry) (timers .entry) (rdi .entry) (run .entry) (totals .entry)) ⌝ }
+    ensures { λ r. ⌜ r ≡ conditionsOf (before set names ids timers rdi run totals) ⌝ }
 {
     call_conditions::conditions(set, names, ids, timers, rdi, run, totals)
 }

@@ -1,1 +1,1 @@
-// Demand 3 for a loss session: what any box must answer, in unlimited whole numbers. Statements in specs/, proofs in proofs/. No code.
+// Demand 3 for a loss session, as a predicate on any step, in unlimited whole numbers: statements and proofs, no code.

@@ -1,4 +1,4 @@
-// The sheet side of the card: a loss session in fixed memory, lent and updated where it lies, from four readings. Rule 7, last sentence.
+// The lent loss session, the sheet side of the card: rule 7 on four readings, by value, and demand 3 for it.
 ghost use Rattle.loss_session.specs.Session.{readings};
 ghost use Rattle.loss_lent.specs.Lent.{readingOf};
 ghost use mathlib.Core.Path.{_≡_};

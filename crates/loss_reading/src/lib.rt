@@ -1,5 +1,4 @@
-// Loss measurement: what one more reading is answered, in cases and in the paper's numbers. What it makes of a session stands in specs/. Rule 7 of the
-// paper.
+// What one more reading makes of a loss session, and what it is answered, in cases and in the paper's numbers. Rule 7 of the paper.
 ghost use mathlib.Core.Path.{_≡_};
 ghost use Rattle.loss_reading.specs.Told.{told};
 use loss_session::LossSession;

@@ -1,4 +1,4 @@
-// Loss measurement: a session takes one more reading. Rule 7 of the paper.
+// One more reading taken into a loss session. Rule 7 of the paper.
 ghost use mathlib.Core.Path.{_≡_};
 ghost use Prim.Native.Nat.{_<_};
 ghost use lib.IntN.{_+ℤ_};

@@ -1,4 +1,5 @@
-// The CCM, written into the caller's buffer: made of what is given and of no state. It asks nothing of its caller.
+// The CCM, written into the caller's buffer, with our own address and MEG ID.
+// It is made of what is given and of no state, and asks nothing of its caller.
 ghost use mathlib.Core.Path.{_≡_};
 ghost use Prim.Native.Nat.{_≤_};
 ghost use lib.ListN.{length};

@@ -1,1 +1,1 @@
-// That what is written reads back: statements and proofs, no code.
+// That what is written reads back as what it was made of: statements and proofs, no code.

@@ -1,5 +1,5 @@
-// The replies that the box gives: the request with what differs laid over it. Each is made of what is given and of no state, and asks
-// nothing of its caller.
+// The replies that the box gives, LBR, LMR and DMR: the request with what differs laid over it.
+// Each is made of what is given and of no state, and asks nothing of its caller.
 ghost use mathlib.Core.Path.{_≡_};
 ghost use Prim.Native.Nat.{_≤_};
 ghost use lib.ListN.{length};

@@ -1,1 +1,2 @@
-// No code: this crate says what an LMM and a DMM are, octet by octet, and how they are laid over a buffer. writelmm and writedmm write them.
+// LMM and DMM octet by octet, and how they are laid over a buffer: definitions and laws, no code.
+// `message_lmm` and `message_dmm` write them.

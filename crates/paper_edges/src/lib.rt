@@ -1,1 +1,1 @@
-// The paper's edges that are to be proved, as one table under one statement. No code.
+// The paper's edges that are to be proved, as one table under one statement: statements and proofs, no code.

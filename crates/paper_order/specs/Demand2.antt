@@ -1,5 +1,5 @@
 -- Demand 2 of the order, of any box: what it reads, passes, drops, answers, sends and raises is what the paper says, line by line (`Said`,
--- crates/demands); and a message that it builds reads back as the fields it was built from. Definitions and the statement only.
+-- crates/paper_said); and a message that it builds reads back as the fields it was built from. Definitions and the statement only.
 use Prim.Native.Nat.{ℕ, _^_, _≤_, _<_}
 use mathlib.Core.Path.{_≡_}
 use mathlib.Core.List.{List}

@@ -1,1 +1,1 @@
-// The order's demands, whole, each as one predicate on a box, and that our box meets them. No code.
+// The order's demands, whole, each as one predicate on a box, and that our box meets them: statements and proofs, no code.

@@ -1,1 +1,1 @@
-// No code: this crate holds what is true of every box that follows the paper: no call is without a word, refusals by the table, what refusals and drops leave.
+// What holds of every box that follows the paper: refusals by the table, what refusals and drops leave: statements and proofs, no code.

@@ -1,1 +1,1 @@
-// The paper's lines on stored records, as a relation, and that our functions follow them. No code.
+// The paper's lines on stored records, as a relation, and that our functions follow them: statements and proofs, no code.

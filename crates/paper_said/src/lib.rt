@@ -1,2 +1,1 @@
-// What the paper says of every call, and what holds of every box that follows it. No code: definitions and statements in specs/, their proofs in
-// proofs/.
+// What the paper says of every call, as a relation, and that our box follows it: statements and proofs, no code.

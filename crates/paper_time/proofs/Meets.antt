@@ -1,4 +1,4 @@
--- Time, of every box that follows the paper: clock's laws of any timer and any period, over the box's runs. Assumes nothing.
+-- Time, of every box that follows the paper: the laws of `base_clock` on any timer and any period, over the box's runs. Assumes nothing.
 use Prim.Native.Nat.{ℕ, suc, _≤_, _∣_}
 use mathlib.Core.Path.{_≡_, refl, sym, ap, subst, _∙_}
 use mathlib.Core.List.{List, _∷_, _++_, map}

@@ -1,1 +1,1 @@
-// Time, of any box: when it sends a CCM, and how long each condition stands. Statements in specs/, proofs in proofs/. No code.
+// Time of any box over runs of any calls: its CCMs, its lost peers, its conditions: statements and proofs, no code.

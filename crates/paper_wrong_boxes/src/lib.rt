@@ -1,1 +1,1 @@
-// No code: this crate holds boxes that demand 3 shuts out.
+// Boxes that demand 3 shuts out, each by a run that is written out: statements and proofs, no code.

@@ -1,4 +1,5 @@
-// Prints the paper's table: each period code with its name, its ticks and its hold time. Codes 0 and 8 show that others have none.
+// Prints the paper's table: each period code with its name, its ticks and its hold time.
+// Codes 0 and 8 show that others have none.
 use libc::STDOUT_FILENO;
 
 // The period's name in ten columns.

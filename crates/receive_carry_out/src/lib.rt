@@ -1,6 +1,6 @@
 // What was decided about a frame is carried out: the state is changed, a reply is written, or the frame is only answered.
 ghost use mathlib.Core.Path.{_≡_};
-ghost use Rattle.state_view.specs.State.{lying};
+ghost use Rattle.state_view.specs.State.{before, after};
 ghost use Rattle.state_places.specs.Stored.{Whole};
 ghost use Rattle.receive_carry_out.specs.CarryOut.{delayAnswer, framed, carriedOut};
 use base_stamp::Stamp;
@@ -39,7 +39,8 @@ pub fn carry_out(
     decision: Decision,
     out: &mut [u8],
 ) -> FrameAnswer
-    ensures { λ r. ⌜ framed r (lying (set .entry) (names .entry) (ids .entry) (timers .exit) (rdi .exit) (run .exit) (totals .exit)) (now (out .exit)) ≡ carriedOut (lying (set .entry) (names .entry) (ids .entry) (timers .entry) (rdi .entry) (run .entry) (totals .entry)) (now (frame .entry)) receive transmit (now (out .entry)) decision ⌝ }
+    ensures { λ r. ⌜ framed r (after set names ids timers rdi run totals) (now (out .exit)) ≡
+        carriedOut (before set names ids timers rdi run totals) (now (frame .entry)) receive transmit (now (out .entry)) decision ⌝ }
     ensures { λ _. ⌜ Whole (now (run .exit)) (now (totals .exit)) ⌝ }
 {
     // a view of an array tells its length, and costs nothing

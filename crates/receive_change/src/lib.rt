@@ -1,6 +1,6 @@
 // What a frame changes in a state, where it lies: the one place where a frame changes a state. Rules 1, 3, 5 and 7 of the paper.
 ghost use mathlib.Core.Path.{_≡_};
-ghost use Rattle.state_view.specs.State.{lying};
+ghost use Rattle.state_view.specs.State.{before, after, afterSession};
 ghost use Rattle.state_places.specs.Stored.{Whole};
 ghost use Rattle.receive_change.specs.Change.{answerOf, readTaken, ended, oneMore, applied};
 use base_period::hold_of;
@@ -64,7 +64,8 @@ fn take_counts(
     rxf: u32,
     txb: u32,
 ) -> FrameAnswer
-    ensures { λ r. ⌜ ended r (lying (set .entry) (names .entry) (ids .entry) (timers .entry) (rdi .entry) (run .exit) (totals .exit)) ≡ readTaken (lying (set .entry) (names .entry) (ids .entry) (timers .entry) (rdi .entry) (run .entry) (totals .entry)) txf rxf txb ⌝ }
+    ensures { λ r. ⌜ ended r (afterSession set names ids timers rdi run totals) ≡
+        readTaken (before set names ids timers rdi run totals) txf rxf txb ⌝ }
     ensures { λ _. ⌜ Whole (now (run .exit)) (now (totals .exit)) ⌝ }
 {
     let reading = Readings {
@@ -91,7 +92,7 @@ pub fn apply(
     totals: &mut [i64; 2],
     change: Change,
 ) -> FrameAnswer
-    ensures { λ r. ⌜ ended r (lying (set .entry) (names .entry) (ids .entry) (timers .exit) (rdi .exit) (run .exit) (totals .exit)) ≡ applied (lying (set .entry) (names .entry) (ids .entry) (timers .entry) (rdi .entry) (run .entry) (totals .entry)) change ⌝ }
+    ensures { λ r. ⌜ ended r (after set names ids timers rdi run totals) ≡ applied (before set names ids timers rdi run totals) change ⌝ }
     ensures { λ _. ⌜ Whole (now (run .exit)) (now (totals .exit)) ⌝ }
 {
     // a view of an array tells its length, and costs nothing

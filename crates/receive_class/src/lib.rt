@@ -1,5 +1,6 @@
-// The first thing decided about a frame: whether it is counted, passes, or is looked at further, and as what. It looks at the level that is
-// set, the side, the length, the EtherType and the first octet of the PDU, and at nothing else.
+// What a frame is to the box: service, too short, above, inside, below, our own level.
+// This is the first thing decided about a frame. It looks at the level that is set, the side, the length, the EtherType and the first octet
+// of the PDU, and at nothing else.
 ghost use mathlib.Core.Path.{_≡_};
 ghost use Rattle.receive_class.specs.Class.{oamFrame, bySide, classOf};
 use base_octets::numbers::read_big;

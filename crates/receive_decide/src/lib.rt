@@ -1,5 +1,5 @@
-// What is done with a frame, decided from the settings and the frame alone: no state is looked at. Rules 1 to 5 and 8 of the paper; which
-// requests rule 6 answers, and which counts rule 7 takes.
+// What is done with a frame, decided from the settings and the frame alone: no state is looked at.
+// Rules 1 to 5 and 8 of the paper; which requests rule 6 answers, and which counts rule 7 takes.
 ghost use mathlib.Core.Path.{_≡_};
 ghost use Prim.Native.Nat.{_≤_};
 ghost use lib.ListN.{length};

@@ -1,4 +1,5 @@
-// Whether a frame is for us: D6, by its addresses, its opcode and its level. No frame is looked at here, and no state.
+// Whether a frame is for us: D6, by its addresses, its opcode and its level.
+// No frame is looked at here, and no state.
 ghost use mathlib.Core.Path.{_≡_};
 ghost use Rattle.receive_for_us.specs.Ours.{hasGroupBit, goodDestination, goodSource, forUs};
 use base_compare::same_octets;

@@ -1,6 +1,7 @@
-// A frame comes: refusals 2, 1 and 6, then what is decided about it, then 3 or 5. The end point's call for every frame, from either side.
+// A frame comes: refusals 2, 1 and 6, then what is decided about it, then 3 or 5.
+// The end point's call for every frame, from either side.
 ghost use mathlib.Core.Path.{_≡_};
-ghost use Rattle.state_view.specs.State.{lying};
+ghost use Rattle.state_view.specs.State.{before, after};
 ghost use Rattle.state_places.specs.Stored.{Whole};
 ghost use Rattle.base_stamp.specs.Stamps.{Wire};
 ghost use Rattle.receive_answer.specs.Told.{told};
@@ -33,8 +34,9 @@ pub fn on_frame(
     transmit: Stamp,
     out: &mut [u8],
 ) -> FrameAnswer
-    ensures { λ r. ⌜ framed r (lying (set .entry) (names .entry) (ids .entry) (timers .exit) (rdi .exit) (run .exit) (totals .exit)) (now (out .exit)) ≡ frameOf (lying (set .entry) (names .entry) (ids .entry) (timers .entry) (rdi .entry) (run .entry) (totals .entry)) side (now (frame .entry)) receive transmit (now (out .entry)) ⌝ }
-    ensures { λ r. ⌜ told r ≡ numbersOf (lying (set .entry) (names .entry) (ids .entry) (timers .entry) (rdi .entry) (run .entry) (totals .entry)) side (now (frame .entry)) receive transmit (now (out .entry)) ⌝ }
+    ensures { λ r. ⌜ framed r (after set names ids timers rdi run totals) (now (out .exit)) ≡
+        frameOf (before set names ids timers rdi run totals) side (now (frame .entry)) receive transmit (now (out .entry)) ⌝ }
+    ensures { λ r. ⌜ told r ≡ numbersOf (before set names ids timers rdi run totals) side (now (frame .entry)) receive transmit (now (out .entry)) ⌝ }
     ensures { λ _. ⌜ Whole (now (run .exit)) (now (totals .exit)) ⌝ }
     ensures { λ _. ⌜ Wire receive × Wire transmit ⌝ }
 {

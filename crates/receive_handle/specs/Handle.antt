@@ -51,6 +51,6 @@ handleOf t p receive LossRequest = Replies request.Loss
 handleOf t p receive DelayReply = Delays (delaysOf (stamp 4 p) (stamp 12 p) (stamp 20 p) receive)
 handleOf t p receive DelayRequest = Replies request.Delay
 
--- D5 where they are not all there; a good message has them (decide), so it is never dropped for that
+-- D5 where they are not all there; a good message has them (`receive_decide`), so it is never dropped for that
 abbrev pub handledOf : Settings → List ℕ → Stamp → Handler → Decision
 handledOf t p receive handler = cond (ltb (length p) (roomFor handler)) (Drops drop.CutOff) (handleOf t p receive handler)

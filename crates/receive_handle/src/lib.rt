@@ -1,4 +1,5 @@
-// What a good message for us does, by who handles it: rules 5 to 8 of the paper. No state is looked at.
+// What a good message for us does, by who handles it: rules 5 to 8 of the paper.
+// No state is looked at.
 ghost use mathlib.Core.Path.{_≡_};
 ghost use Prim.Native.Nat.{_+_, _≤_};
 ghost use lib.ListN.{length};

@@ -1,4 +1,5 @@
-// What a CCM of our level tells: whose it is. Rule 5 of the paper. It looks at the settings and the PDU, and at no state.
+// Whose a CCM of our level is: MEG ID, MEP ID, period. Rule 5 of the paper.
+// It looks at the settings and the PDU, and at no state.
 ghost use mathlib.Core.Path.{_≡_};
 ghost use lib.ListN.{take};
 ghost use Rattle.state_settings.specs.Settings.{settingsOf};

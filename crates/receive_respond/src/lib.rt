@@ -1,7 +1,7 @@
 // The answer to a request: the reply written from the request, our address, our counts and the caller's stamps. Rule 6 of the paper.
 ghost use mathlib.Core.Path.{_≡_};
 ghost use Rattle.state_settings.specs.Settings.{addressAt};
-ghost use Rattle.state_view.specs.State.{lying};
+ghost use Rattle.state_view.specs.State.{before};
 ghost use Rattle.receive_respond.specs.Respond.{answerFor, respondedOf, leftAfter};
 use base_stamp::Stamp;
 use message_reply::Replied;
@@ -56,8 +56,9 @@ pub fn respond(
     request: Request,
     out: &mut [u8],
 ) -> FrameAnswer
-    ensures { λ r. ⌜ r ≡ respondedOf (lying (set .entry) (names .entry) (ids .entry) (timers .entry) (rdi .entry) (run .entry) (totals .entry)) (now (frame .entry)) receive transmit (now (out .entry)) request ⌝ }
-    ensures { λ _. ⌜ now (out .exit) ≡ leftAfter (lying (set .entry) (names .entry) (ids .entry) (timers .entry) (rdi .entry) (run .entry) (totals .entry)) (now (frame .entry)) receive transmit (now (out .entry)) request ⌝ }
+    ensures { λ r. ⌜ r ≡ respondedOf (before set names ids timers rdi run totals) (now (frame .entry)) receive transmit (now (out .entry)) request ⌝ }
+    ensures { λ _. ⌜ now (out .exit) ≡
+        leftAfter (before set names ids timers rdi run totals) (now (frame .entry)) receive transmit (now (out .entry)) request ⌝ }
 {
     let own = own_address(names);
     match request {

@@ -1,7 +1,7 @@
 // What a CCM, AIS or LCK of our level tells, and the timers that it sets. Rule 5 of the paper.
 ghost use mathlib.Core.Path.{_≡_};
 ghost use lib.ListN as ListN;
-ghost use Rattle.state_view.specs.State.{lying};
+ghost use Rattle.state_view.specs.State.{before, afterSignal};
 ghost use Rattle.state_places.specs.Stored.{Whole};
 ghost use Rattle.receive_signals.specs.Signals.{signalled};
 use base_period::hold_of;
@@ -49,7 +49,7 @@ pub fn set_timers(
     totals: &[i64; 2],
     signal: Signal,
 )
-    ensures { λ _. ⌜ lying (set .entry) (names .entry) (ids .entry) (timers .exit) (rdi .exit) (run .exit) (totals .entry) ≡ signalled (lying (set .entry) (names .entry) (ids .entry) (timers .entry) (rdi .entry) (run .entry) (totals .entry)) signal ⌝ }
+    ensures { λ _. ⌜ afterSignal set names ids timers rdi run totals ≡ signalled (before set names ids timers rdi run totals) signal ⌝ }
     ensures { λ _. ⌜ Whole (now (run .exit)) (now (totals .entry)) ⌝ }
 {
     // a view of an array tells its length, and costs nothing

@@ -1,7 +1,7 @@
-// Works a month again: raw loss replies on standard input, four little-endian counts of 32 bits each (TxFCf, RxFCf, TxFCb, our own received count);
-// on standard output a stored loss line after each, for `sheet` to print. A reply that the input cuts short, or that the session has no
-// interval left for, ends it and is told on standard error; the lines before it stand. What is written for a chunk of replies is proved in
-// `replies`.
+// Works a month again: raw loss replies on standard input, a stored loss line after each on standard output.
+// A reply is four little-endian counts of 32 bits (TxFCf, RxFCf, TxFCb, our own received count); `sheet` prints the lines. A reply that the
+// input cuts short, or that the session has no interval left for, ends it and is told on standard error; the lines before it stand. What is
+// written for a chunk of replies is proved in `stored_recount`.
 use libc::STDERR_FILENO;
 use libc::STDIN_FILENO;
 use libc::STDOUT_FILENO;

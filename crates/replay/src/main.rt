@@ -1,6 +1,7 @@
-// Runs recorded calls: calls on standard input, one line for each on standard output. At a bad call it prints `bad call` and stops.
-// What a call is, what it is answered and how octets and numbers are written is proved in the rooms below; here is only which call goes where, and in
-// which words its answer is printed.
+// Runs recorded calls: calls on standard input, one line for each on standard output.
+// At a bad call it prints `bad call` and stops.
+// What a call is, what it is answered and how octets and numbers are written is proved in the rooms below; here is only which call goes
+// where, and in which words its answer is printed.
 mod body;
 mod held;
 mod line;

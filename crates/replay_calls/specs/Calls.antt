@@ -1,5 +1,6 @@
 -- Recorded calls, framed as stored records are: little-endian, a two-octet length of all that follows it, from 2 to 2,000, a two-octet call
--- number, the body. Any other length is a bad call's; which other calls are bad stands in goodcalls. Definitions and the statement only.
+-- number, the body. Any other length is a bad call's; which other calls are bad stands in `replay_good_calls`. Definitions and the
+-- statement only.
 use Prim.Native.Nat.{ℕ, _-_, _≤_, _<_}
 use mathlib.Core.Path.{_≡_}
 use mathlib.Core.Bool.{Bool, true, cond}

@@ -10,7 +10,7 @@ use lib.ListN.{length, getD}
 use Rattle.base_laws.specs.Tests.{choose}
 use Rattle.replay_calls.specs.Calls.{rowOf, frontNumber, roomOf}
 
--- ── the table of calls, from number 257 on, as in calls ──
+-- ── the table of calls, from number 257 on, as in `replay_calls` ──
 
 -- the fewest and the most octets of the body
 abbrev pub fewest : List ℕ

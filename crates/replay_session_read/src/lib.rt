@@ -1,4 +1,4 @@
-// The session in 37 octets, read.
+// A loss session read from its 37 octets.
 ghost use mathlib.Core.Path.{_≡_};
 ghost use Rattle.replay_session.specs.Session.{sessionAt};
 use base_octets::numbers::read_little;

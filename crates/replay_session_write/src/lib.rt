@@ -1,4 +1,4 @@
-// The 37 octets of a loss session, written.
+// A loss session written as its 37 octets.
 ghost use mathlib.Core.Path.{_≡_};
 ghost use Rattle.replay_session.specs.Session.{sessionOctets};
 use base_octets::numbers::write_little;

@@ -1,5 +1,5 @@
-// How a state lies in 194 octets, as recorded runs put and show it: settings 81, sent and received, the peers' timers, their RDI, the timers of
-// the conditions and the ticks to the next CCM, the session 37. No code.
+// How a state lies in 194 octets, any content, there and back, as recorded runs put and show it: definitions and laws.
+// Settings 81, sent and received, the peers' timers, their RDI, the timers of the conditions and the ticks to the next CCM, the session 37.
 
 // The octets of a state.
 pub const STATE: usize = 194;

@@ -1,4 +1,4 @@
-// The state in 194 octets, read into its seven arrays.
+// A state read from its 194 octets into its seven arrays.
 ghost use mathlib.Core.Path.{_≡_};
 ghost use Prim.Native.Nat.{_+_, _*_, _≤_};
 ghost use lib.ListN.{length, drop};

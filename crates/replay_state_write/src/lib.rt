@@ -1,11 +1,11 @@
-// The 194 octets of a state, written from its seven arrays.
+// A state written as its 194 octets from its seven arrays.
 ghost use mathlib.Core.Path.{_≡_};
 ghost use mathlib.Core.List.{[], _∷_};
 ghost use Prim.Native.Nat.{_+_, _*_, _≤_};
 ghost use lib.ListN.{length, getD};
 ghost use Rattle.base_laws.specs.Lists.{laid};
 ghost use Rattle.state_settings.specs.Settings.{slots};
-ghost use Rattle.state_view.specs.State.{lying};
+ghost use Rattle.state_view.specs.State.{before};
 ghost use Rattle.replay_state.specs.Words.{wordsOctets};
 ghost use Rattle.replay_state.specs.State.{stateOctets, runningOctets};
 use base_octets::numbers::write_little;
@@ -70,7 +70,7 @@ pub fn state_octets(
     run: &[u32; 15],
     totals: &[i64; 2],
 ) -> [u8; STATE]
-    ensures { λ r. ⌜ r ≡ stateOctets (lying (set .entry) (names .entry) (ids .entry) (timers .entry) (rdi .entry) (run .entry) (totals .entry)) ⌝ }
+    ensures { λ r. ⌜ r ≡ stateOctets (before set names ids timers rdi run totals) ⌝ }
 {
     // a view of an array tells its length, and costs nothing
     let _names: &[u8] = names;

@@ -1,5 +1,6 @@
-// Prints the loss sheet: stored loss lines on standard input, of any number; on standard output a header, a line for each, and `refused 7` at the
-// first that is bad or cut short, where it stops. What is printed for a chunk of records is proved in `lines`; here is only the reading and the writing.
+// Prints the link sheet: stored loss lines on standard input; a header and a line for each on standard output.
+// There may be any number of them. It prints `refused 7` at the first that is bad or cut short, and stops. What is printed for a chunk of
+// records is proved in `stored_sheet_lines`; here is only the reading and the writing.
 use libc::STDERR_FILENO;
 use libc::STDIN_FILENO;
 use libc::STDOUT_FILENO;

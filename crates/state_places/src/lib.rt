@@ -1,6 +1,6 @@
-// A loss session put where a state's lies. What storing any word of a state leaves of it is stated in specs/Stored.antt.
+// What storing a word, a session or all timers leaves of a state, one law for every word; a session put where it lies.
 ghost use mathlib.Core.Path.{_≡_};
-ghost use Rattle.state_view.specs.State.{lying};
+ghost use Rattle.state_view.specs.State.{before, afterSession};
 ghost use Rattle.state_view.specs.Changed.{withSession};
 ghost use Rattle.state_places.specs.Stored.{Whole};
 use loss_session::LossSession;
@@ -25,7 +25,7 @@ pub fn put_session(
     totals: &mut [i64; 2],
     session: LossSession,
 )
-    ensures { λ _. ⌜ lying (set .entry) (names .entry) (ids .entry) (timers .entry) (rdi .entry) (run .exit) (totals .exit) ≡ withSession session (lying (set .entry) (names .entry) (ids .entry) (timers .entry) (rdi .entry) (run .entry) (totals .entry)) ⌝ }
+    ensures { λ _. ⌜ afterSession set names ids timers rdi run totals ≡ withSession session (before set names ids timers rdi run totals) ⌝ }
     ensures { λ _. ⌜ Whole (now (run .exit)) (now (totals .exit)) ⌝ }
 {
     // a view of an array tells its length, and costs nothing

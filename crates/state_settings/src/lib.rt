@@ -1,5 +1,5 @@
-// What a box is set to, and when that is valid. The settings lie in three lent arrays; any content is a value, and what breaks a rule is
-// told and not assumed away.
+// What a box is set to, and when that is valid.
+// The settings lie in three lent arrays; any content is a value, and what breaks a rule is told and not assumed away.
 ghost use mathlib.Core.Path.{_≡_};
 ghost use lib.ListN.{getD};
 ghost use Rattle.state_settings.specs.Settings.{settingsOf, addressAt};

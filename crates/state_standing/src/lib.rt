@@ -1,7 +1,8 @@
-// Whether any condition stands, for the RDI of our own CCM. It only reads the state.
+// Whether any condition stands, for the RDI of our own CCM.
+// It only reads the state.
 ghost use mathlib.Core.Path.{_≡_};
 ghost use lib.ListN.{take};
-ghost use Rattle.state_view.specs.State.{lying};
+ghost use Rattle.state_view.specs.State.{before};
 ghost use Rattle.state_standing.specs.Standing.{standing};
 ghost use Rattle.state_standing.specs.Flag.{flag};
 use base_distinct::is_absent;
@@ -35,7 +36,7 @@ pub fn any_stands(
     run: &[u32; 15],
     totals: &[i64; 2],
 ) -> bool
-    ensures { λ r. ⌜ r ≡ standing (lying (set .entry) (names .entry) (ids .entry) (timers .entry) (rdi .entry) (run .entry) (totals .entry)) ⌝ }
+    ensures { λ r. ⌜ r ≡ standing (before set names ids timers rdi run totals) ⌝ }
 {
     let heard = is_absent(front(timers, set[COUNT]), 0);
     !heard

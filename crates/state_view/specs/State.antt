@@ -5,6 +5,7 @@ use mathlib.Core.List.{List}
 use lib.IntN.{ℤ, pos}
 use lib.ListN.{getD}
 use denote.Ref.{RefT, now}
+use denote.Triple.Both.{Both}
 use Rattle.state_settings.specs.Settings.{Settings, settingsOf}
 use Rattle.loss_session.specs.declared.LossSession.{LossSession}
 use Rattle.loss_session.specs.Session.{readings}
@@ -64,3 +65,30 @@ shown a = viewOf (a .set) (a .names) (a .ids) (a .timers) (a .rdi) (a .run) (a .
 -- and of lent arrays, as they are at a moment
 abbrev pub lying : RefT (List ℕ) → RefT (List ℕ) → RefT (List ℕ) → RefT (List ℕ) → RefT (List ℕ) → RefT (List ℕ) → RefT (List ℤ) → State
 lying set names ids timers rdi run totals = viewOf (now set) (now names) (now ids) (now timers) (now rdi) (now run) (now totals)
+
+-- an array that is lent to a call, as it is when the call begins and when it ends
+abbrev pub Lent : Type 0
+Lent = Both (RefT (List ℕ)) (RefT (List ℕ))
+
+abbrev pub LentTotals : Type 0
+LentTotals = Both (RefT (List ℤ)) (RefT (List ℤ))
+
+-- the state when a call begins
+abbrev pub before : Lent → Lent → Lent → Lent → Lent → Lent → LentTotals → State
+before set names ids timers rdi run totals = lying (set .entry) (names .entry) (ids .entry) (timers .entry) (rdi .entry) (run .entry) (totals .entry)
+
+-- the state when a call ends: the settings are never written
+abbrev pub after : Lent → Lent → Lent → Lent → Lent → Lent → LentTotals → State
+after set names ids timers rdi run totals = lying (set .entry) (names .entry) (ids .entry) (timers .exit) (rdi .exit) (run .exit) (totals .exit)
+
+-- the same of a call that writes the running words and totals alone
+abbrev pub afterSession : Lent → Lent → Lent → Lent → Lent → Lent → LentTotals → State
+afterSession set names ids timers rdi run totals = lying (set .entry) (names .entry) (ids .entry) (timers .entry) (rdi .entry) (run .exit) (totals .exit)
+
+-- of one that writes timers and running words
+abbrev pub afterTick : Lent → Lent → Lent → Lent → Lent → Lent → LentTotals → State
+afterTick set names ids timers rdi run totals = lying (set .entry) (names .entry) (ids .entry) (timers .exit) (rdi .entry) (run .exit) (totals .entry)
+
+-- of one that writes timers, RDI and running words
+abbrev pub afterSignal : Lent → Lent → Lent → Lent → Lent → Lent → LentTotals → State
+afterSignal set names ids timers rdi run totals = lying (set .entry) (names .entry) (ids .entry) (timers .exit) (rdi .exit) (run .exit) (totals .entry)

@@ -1,4 +1,4 @@
-// What a box knows, and where it lies: a state is lent in seven arrays, and any content is a value.
+// What a box knows, where it lies and when it is well formed: a state is lent in seven arrays, and any content is a value.
 ghost use mathlib.Core.Path.{_≡_};
 ghost use Rattle.state_view.specs.State.{sessionIn};
 use loss_session::LossSession;

@@ -1,4 +1,4 @@
-// Whether a state is well formed: what is not is refused by number.
+// Whether a state is well formed, all parts together: what is not is refused by number.
 ghost use mathlib.Core.Path.{_≡_};
 ghost use Rattle.state_view.specs.State.{viewOf};
 ghost use Rattle.state_view.specs.WellFormed.{wellFormed};

@@ -1,4 +1,5 @@
-// The head of a stored record, for every kind: two octets with the length of all that follows them, two with the kind, then the body.
+// The head of a stored record of any kind, tested; head and body written.
+// The head is two octets with the length of all that follows them and two with the kind; then comes the body.
 ghost use mathlib.Core.Path.{_≡_};
 ghost use Prim.Native.Nat.{_+_, _≤_};
 ghost use lib.ListN.{length};

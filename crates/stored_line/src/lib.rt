@@ -1,5 +1,5 @@
-// The stored record of kind 2, a loss line: the two totals of a session and the intervals that they cover. What it is, what reading and writing it
-// give, and their answers in the paper's numbers.
+// What a stored loss line is, kind 2, and what reading and writing one give, in cases and in the paper's numbers.
+// It holds the two totals of a session and the intervals that they cover.
 ghost use mathlib.Core.Path.{_≡_};
 ghost use Rattle.stored_line.specs.Calls.{told};
 

@@ -1,5 +1,6 @@
--- A month worked again: raw replies, the stored lines that `replies` writes of them, and the sheet that `lines` prints of those. The order,
--- demand 3: the totals agree with an account kept in unlimited whole numbers. Definitions and the statement only.
+-- A month worked again: raw replies, the stored lines that `stored_recount` writes of them, and the sheet that `stored_sheet_lines`
+-- prints of those. The order, demand 3: the totals agree with an account kept in unlimited whole numbers. Definitions and the statement
+-- only.
 use Prim.Native.Nat.{ℕ, _-_, _≤_}
 use mathlib.Core.Path.{_≡_}
 use mathlib.Core.List.{List, [], _∷_, _++_, map}

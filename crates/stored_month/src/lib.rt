@@ -1,1 +1,1 @@
-// A month worked again: what is written and printed of raw loss replies is the account in unlimited whole numbers. No code.
+// That a month worked again, written and printed, is the account in unlimited whole numbers: statements and proofs, no code.

@@ -1,4 +1,5 @@
-// A stored record of any kind: what writing one is answered, in cases and in the paper's numbers. What a record is stands in specs/.
+// A stored record of any kind: what writing one is answered, in cases and in the paper's numbers.
+// What a record is stands in specs/.
 ghost use mathlib.Core.Path.{_≡_};
 ghost use Rattle.stored_record.specs.Writing.{told};
 

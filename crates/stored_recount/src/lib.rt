@@ -1,5 +1,5 @@
-// Raw loss replies worked again: the four counts of each are fed to a session, and a stored loss line is written after each. What a card kept of a
-// month is so made into its sheet.
+// Raw loss replies worked again in memory: the four counts of each go to a session, and a stored loss line is written after each.
+// What a card kept of a month is so made into its sheet.
 ghost use mathlib.Core.Path.{_≡_};
 ghost use Prim.Native.Nat.{_+_, _≤_};
 ghost use lib.ListN.{length, drop};

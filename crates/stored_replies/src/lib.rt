@@ -1,5 +1,5 @@
-// Raw loss replies, what working through them gives, and that chunks of them give what the whole gives. Definitions in specs/, their laws in
-// proofs/. No code but how far the work went.
+// What working through raw loss replies gives, and that chunks of them give what the whole gives: definitions and laws.
+// No code but how far the work went.
 use loss_session::LossSession;
 
 // How far the replies were worked through. A call that is refused touched nothing; one that halted took what it tells, and that stands. No

@@ -1,5 +1,6 @@
-// The stored record of kind 1: settings. A read gives the three arrays in which settings lie, a write takes them. The answer of a read is a
-// struct with the refusal's number in it, and no enum: an enum that holds an array is not covered by the toolchain.
+// The stored record of kind 1, settings: read into the three arrays in which settings lie, and written from them.
+// The answer of a read is a struct with the refusal's number in it, and no enum: an enum that holds an array is not covered by the
+// toolchain.
 ghost use mathlib.Core.Path.{_≡_};
 ghost use Rattle.state_settings.specs.Settings.{slots, settingsOf, Shaped};
 ghost use Rattle.stored_record.specs.Writing.{ended, told};

@@ -1,4 +1,5 @@
-// The body of a stored record of settings, read into the three arrays in which settings lie. Nothing is tested here.
+// The body of a stored record of settings, read into the three arrays in which settings lie.
+// Nothing is tested here.
 ghost use mathlib.Core.Path.{_≡_};
 ghost use Prim.Native.Nat.{_*_, _≤_};
 ghost use lib.ListN.{length};

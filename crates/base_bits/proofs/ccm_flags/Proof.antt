@@ -1,4 +1,4 @@
--- `bits::ccm_flags` meets its contract: `joined`, one bit shifted up by 7 and three bits below it.
+-- `base_bits::ccm_flags` meets its contract: `joined`, one bit shifted up by 7 and three bits below it.
 use native.Mathlib.Omega.{arith}
 use Rattle.base_bits.proofs.Joined.{joined, joined-fits}
 use Rattle.base_bits.proofs.ccm_flags.Statement.{statement}

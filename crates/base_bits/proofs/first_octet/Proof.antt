@@ -1,4 +1,4 @@
--- `bits::first_octet` meets its contract: `joined`, three bits shifted up by 5 and five bits below them.
+-- `base_bits::first_octet` meets its contract: `joined`, three bits shifted up by 5 and five bits below them.
 use native.Mathlib.Omega.{arith}
 use Rattle.base_bits.proofs.Joined.{joined, joined-fits}
 use Rattle.base_bits.proofs.first_octet.Statement.{statement}

@@ -1,4 +1,4 @@
--- `bits::period_code_of` meets its contract: a mask of 3 ones is a remainder by 2 ^ 3.
+-- `base_bits::period_code_of` meets its contract: a mask of 3 ones is a remainder by 2 ^ 3.
 use lib.Bits.{and-mask}
 use Rattle.base_bits.proofs.Joined.{masked-fits}
 use Rattle.base_bits.proofs.period_code_of.Statement.{statement}

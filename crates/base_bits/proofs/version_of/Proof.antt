@@ -1,4 +1,4 @@
--- `bits::version_of` meets its contract: a mask of 5 ones is a remainder by 2 ^ 5.
+-- `base_bits::version_of` meets its contract: a mask of 5 ones is a remainder by 2 ^ 5.
 use lib.Bits.{and-mask}
 use Rattle.base_bits.proofs.Joined.{masked-fits}
 use Rattle.base_bits.proofs.version_of.Statement.{statement}

@@ -1,4 +1,4 @@
--- `same::same_octets` meets its contract. The invariant: what was found so far, and the pairs from i on, decide as all do.
+-- `base_compare::same_octets` meets its contract. The invariant: what was found so far, and the pairs from i on, decide as all do.
 use Prim.Native.Nat.{_≤_, _-_}
 use mathlib.Core.Path.{sym}
 use native.Mathlib.Omega.{arith}

@@ -1,4 +1,4 @@
--- `distinct::all_distinct` meets its contract. The invariant: the words from i on decide.
+-- `base_distinct::all_distinct` meets its contract. The invariant: the words from i on decide.
 use Prim.Native.Nat.{ℕ, _+_, _-_, _≤_}
 use mathlib.Core.Path.{_≡_, refl, sym, ap, _∙_}
 use native.Mathlib.Omega.{arith}

@@ -1,4 +1,4 @@
--- `distinct::is_absent` meets its contract. The invariant: what was found so far, and the words from i on, decide as all do.
+-- `base_distinct::is_absent` meets its contract. The invariant: what was found so far, and the words from i on, decide as all do.
 use mathlib.Core.Bool.{not}
 use lib.Dec.{eqb}
 use Prim.Native.Nat.{_≤_, _-_}

@@ -1,4 +1,4 @@
--- `hex::hex_digit` meets its contract, by its test.
+-- `base_hex::hex_digit` meets its contract, by its test.
 use mathlib.Core.Path.{sym}
 use native.Mathlib.Omega.{arith}
 use Rattle.base_hex.proofs.Hex.{digit-below, digit-above}

@@ -1,4 +1,4 @@
--- `hex::write_hex` meets its contract: no octets are a word, others are written where all their digits fit.
+-- `base_hex::write_hex` meets its contract: no octets are a word, others are written where all their digits fit.
 use mathlib.Core.Path.{sym}
 use native.Mathlib.Omega.{arith}
 use denote.Ref.{now}

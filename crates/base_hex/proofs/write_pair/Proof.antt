@@ -1,4 +1,4 @@
--- `hex::write_pair` meets its contract: two digits, one behind the other.
+-- `base_hex::write_pair` meets its contract: two digits, one behind the other.
 use native.Mathlib.Omega.{arith}
 use denote.Ref.{now}
 use lib.ListN.{length-set}

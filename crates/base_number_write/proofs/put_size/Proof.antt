@@ -1,4 +1,4 @@
--- `digits::put_size` meets its contract: the digits are counted, and where they fit they are written, all at once.
+-- `base_number_write::put_size` meets its contract: the digits are counted, and where they fit they are written, all at once.
 use native.Mathlib.Omega.{arith}
 use borrow.Author.Needs.{needs}
 use denote.Ref.{now}

@@ -1,4 +1,4 @@
--- `period::hold_of` meets its contract: the row of the code.
+-- `base_period::hold_of` meets its contract: the row of the code.
 use mathlib.Core.Path.{ap}
 use borrow.Author.Needs.{needs}
 use Rattle.base_period.specs.declared.Period.{Period}

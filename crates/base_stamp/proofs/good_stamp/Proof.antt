@@ -1,4 +1,4 @@
--- `stamps::good_stamp` keeps its promise: each part is found by search.
+-- `base_stamp::good_stamp` keeps its promise: each part is found by search.
 use borrow.Author.Needs.{needs}
 use Rattle.base_stamp.proofs.good_stamp.Statement.{statement}
 use Rattle.base_stamp.proofs.good_stamp.Tie as tie

@@ -1,4 +1,4 @@
--- `spelling::write_word` meets its contract: where the word fits it is copied, all at once.
+-- `base_text::write_word` meets its contract: where the word fits it is copied, all at once.
 use mathlib.Core.Path.{refl}
 use native.Mathlib.Omega.{arith}
 use denote.Ref.{now}

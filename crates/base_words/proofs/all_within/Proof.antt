@@ -1,4 +1,4 @@
--- `words::all_within` meets its contract. The invariant: what was found so far, and the words from i on, decide as all do.
+-- `base_words::all_within` meets its contract. The invariant: what was found so far, and the words from i on, decide as all do.
 use Prim.Native.Nat.{_≤_, _-_}
 use native.Mathlib.Omega.{arith}
 use lib.ListN.{length}

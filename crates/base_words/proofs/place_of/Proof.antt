@@ -1,4 +1,4 @@
--- `words::place_of` meets its contract. The invariant: the place is i and the place from there on.
+-- `base_words::place_of` meets its contract. The invariant: the place is i and the place from there on.
 use Prim.Native.Nat.{ℕ, _+_, _-_, _≤_}
 use mathlib.Core.Path.{_≡_, refl, sym, ap, _∙_}
 use native.Mathlib.Omega.{arith}

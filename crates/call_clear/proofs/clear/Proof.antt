@@ -1,4 +1,4 @@
--- `clear::clear` meets its contract: refusal 2, or the cleared session put in its place.
+-- `call_clear::clear` meets its contract: refusal 2, or the cleared session put in its place.
 use mathlib.Core.Path.{_≡_}
 use lib.ListN.{length}
 use Rattle.state_view.specs.State.{lying}

@@ -1,4 +1,4 @@
--- `clear::tell` meets its contract, case by case.
+-- `call_clear::tell` meets its contract, case by case.
 use mathlib.Core.Path.{sym, ap}
 use Rattle.call_clear.specs.Clear.{told}
 use borrow.Author.Needs.{needs}

@@ -1,4 +1,4 @@
--- `conditions::conditions` meets its contract: refusal 2, or each condition.
+-- `call_conditions::conditions` meets its contract: refusal 2, or each condition.
 use mathlib.Core.Path.{sym, _∙_}
 use borrow.Author.Tests.{not-true, not-false}
 use Rattle.call_conditions.specs.Conditions.{conditionsOf}

@@ -1,4 +1,4 @@
--- `conditions::mark_lost` meets its contract. The invariant: the first i slots are marked, the others as they were.
+-- `call_conditions::mark_lost` meets its contract. The invariant: the first i slots are marked, the others as they were.
 use Prim.Native.Nat.{ℕ, _-_, _≤_}
 use mathlib.Core.Path.{_≡_, refl, ap, _∙_}
 use mathlib.Core.List.{List}

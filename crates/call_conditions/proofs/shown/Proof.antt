@@ -1,4 +1,4 @@
--- `conditions::shown` meets its contract: each flag from its own timer.
+-- `call_conditions::shown` meets its contract: each flag from its own timer.
 use borrow.Author.Needs.{needs}
 use Rattle.call_conditions.proofs.shown.Statement.{statement}
 use Rattle.call_conditions.proofs.shown.Tie as tie

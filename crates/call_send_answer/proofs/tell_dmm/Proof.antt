@@ -1,4 +1,4 @@
--- `sends::tell_dmm` meets its contract, case by case.
+-- `call_send_answer::tell_dmm` meets its contract, case by case.
 use mathlib.Core.Path.{sym, ap}
 use Rattle.call_send_answer.specs.Told.{dmmTold}
 use borrow.Author.Needs.{needs}

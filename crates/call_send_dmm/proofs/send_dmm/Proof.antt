@@ -1,4 +1,4 @@
--- `senddmm::send_dmm` meets its contract: one law for each way that the call ends.
+-- `call_send_dmm::send_dmm` meets its contract: one law for each way that the call ends.
 use denote.Ref.{now}
 use Rattle.state_view.specs.State.{lying}
 use Rattle.call_send_dmm.specs.Dmm.{dmmOf}

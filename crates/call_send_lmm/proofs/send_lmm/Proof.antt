@@ -1,4 +1,4 @@
--- `sendlmm::send_lmm` meets its contract: one law for each way that the call ends.
+-- `call_send_lmm::send_lmm` meets its contract: one law for each way that the call ends.
 use denote.Ref.{now}
 use Rattle.state_view.specs.State.{lying}
 use Rattle.call_send_lmm.specs.Lmm.{lmmOf}

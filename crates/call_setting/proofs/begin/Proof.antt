@@ -1,4 +1,4 @@
--- `start::begin` meets its contract: the used peers' timers at the hold time, a period to run, zeros elsewhere.
+-- `call_setting::begin` meets its contract: the used peers' timers at the hold time, a period to run, zeros elsewhere.
 use Prim.Native.Nat.{ℕ}
 use mathlib.Core.Path.{_≡_, ap, _∙_}
 use mathlib.Core.List.{List, [], _∷_}

@@ -1,4 +1,4 @@
--- `start::new_setting` meets its contract: zeros where the settings are not valid, else the starting state.
+-- `call_setting::new_setting` meets its contract: zeros where the settings are not valid, else the starting state.
 use Prim.Native.Nat.{ℕ}
 use mathlib.Core.Path.{_≡_, sym, ap, _∙_}
 use mathlib.Core.Bool.{Bool, true, false, cond}

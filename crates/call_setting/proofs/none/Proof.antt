@@ -1,4 +1,4 @@
--- `start::none` meets its contract.
+-- `call_setting::none` meets its contract.
 use mathlib.Core.Path.{refl}
 use Rattle.call_setting.specs.Start.{noState}
 use Rattle.call_setting.proofs.none.Statement.{statement}

@@ -1,4 +1,4 @@
--- `start::start_timers` meets its contract. The invariant: the first i timers are the hold time, the others as they were.
+-- `call_setting::start_timers` meets its contract. The invariant: the first i timers are the hold time, the others as they were.
 use Prim.Native.Nat.{ℕ, _-_, _≤_}
 use mathlib.Core.List.{List}
 use mathlib.Core.Path.{_≡_, refl, sym, ap, _∙_}

@@ -1,4 +1,4 @@
--- `settinganswer::tell` meets its contract, case by case.
+-- `call_setting_answer::tell` meets its contract, case by case.
 use mathlib.Core.Path.{sym, ap}
 use Rattle.call_setting_answer.specs.Told.{told}
 use borrow.Author.Needs.{needs}

@@ -1,4 +1,4 @@
--- `tick::tick` meets its contract: one law for each way that a tick ends.
+-- `call_tick::tick` meets its contract: one law for each way that a tick ends.
 use mathlib.Core.Path.{_≡_}
 use denote.Ref.{now}
 use lib.ListN.{length}

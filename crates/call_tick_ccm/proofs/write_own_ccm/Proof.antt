@@ -1,4 +1,4 @@
--- `ccm::write_own_ccm` meets its contract: the state's own address and MEG ID from the copy, its values, and the conditions that stand.
+-- `call_tick_ccm::write_own_ccm` meets its contract: the state's own address and MEG ID from the copy, its values, and the conditions that stand.
 use Prim.Native.Nat.{ℕ}
 use mathlib.Core.Path.{refl, sym, ap, _∙_}
 use mathlib.Core.List.{List}

@@ -1,4 +1,4 @@
--- `lower::lower_peers` meets its contract. The invariant: the first i timers are lowered, the others as they were.
+-- `call_tick_lower::lower_peers` meets its contract. The invariant: the first i timers are lowered, the others as they were.
 use Prim.Native.Nat.{_-_, _≤_}
 use mathlib.Core.Path.{_≡_, refl, _∙_}
 use native.Mathlib.Omega.{arith}

@@ -1,4 +1,4 @@
--- `lower::lower_running` meets its contract. The invariant: the first i words are lowered, the others as they were.
+-- `call_tick_lower::lower_running` meets its contract. The invariant: the first i words are lowered, the others as they were.
 use Prim.Native.Nat.{ℕ, _-_, _≤_}
 use mathlib.Core.Path.{_≡_, ap, _∙_}
 use native.Mathlib.Omega.{arith}

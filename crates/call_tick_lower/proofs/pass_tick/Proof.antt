@@ -1,4 +1,4 @@
--- `lower::pass_tick` meets its contract: two runs of timers lowered, one word stored.
+-- `call_tick_lower::pass_tick` meets its contract: two runs of timers lowered, one word stored.
 use mathlib.Core.Path.{_≡_}
 use lib.ListN.{length}
 use Rattle.call_tick_lower.proofs.Lower.{passed}

@@ -1,4 +1,4 @@
--- `ccmfields::ccm_fields` meets its contract: the fields of a good CCM.
+-- `frame_ccm::ccm_fields` meets its contract: the fields of a good CCM.
 use mathlib.Core.Path.{_≡_, refl, sym, ap, _∙_}
 use mathlib.Core.List.{List}
 use Prim.Native.Nat.{ℕ}

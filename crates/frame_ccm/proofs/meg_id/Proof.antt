@@ -1,4 +1,4 @@
--- `ccmfields::meg_id` meets its contract: the 48 octets of a good CCM, with their place; an empty part at the frame's start.
+-- `frame_ccm::meg_id` meets its contract: the 48 octets of a good CCM, with their place; an empty part at the frame's start.
 use mathlib.Core.Path.{refl, sym, _∙_}
 use mathlib.Core.List.{[]}
 use Prim.Native.Nat.{_+_}

@@ -1,4 +1,4 @@
--- `judge::judge_frame` meets its contract: at each return the tests that led there pick the case of `judge`.
+-- `frame_judge::judge_frame` meets its contract: at each return the tests that led there pick the case of `judge`.
 use native.Mathlib.Omega.{arith}
 use mathlib.Core.Path.{_≡_, sym, ap, _∙_}
 use Prim.Native.Nat.{ℕ}

@@ -1,4 +1,4 @@
--- `judge::judge_pdu` meets its contract: at each return the tests that led there pick the case of `judgePdu`.
+-- `frame_judge::judge_pdu` meets its contract: at each return the tests that led there pick the case of `judgePdu`.
 use native.Mathlib.Omega.{arith}
 use mathlib.Core.Path.{_≡_, sym, ap, _∙_}
 use mathlib.Core.Bool.{true}

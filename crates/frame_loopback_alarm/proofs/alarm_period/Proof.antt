@@ -1,4 +1,4 @@
--- `fields::alarm_period` meets its contract: the period code of a good AIS or LCK.
+-- `frame_loopback_alarm::alarm_period` meets its contract: the period code of a good AIS or LCK.
 use mathlib.Core.Path.{_≡_, refl, sym, ap, _∙_}
 use mathlib.Core.List.{List}
 use Prim.Native.Nat.{ℕ}

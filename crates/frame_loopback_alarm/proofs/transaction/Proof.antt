@@ -1,4 +1,4 @@
--- `fields::transaction` meets its contract: the number of a good LBM or LBR.
+-- `frame_loopback_alarm::transaction` meets its contract: the number of a good LBM or LBR.
 use mathlib.Core.Path.{_≡_, refl, sym, ap, _∙_}
 use mathlib.Core.List.{List}
 use Prim.Native.Nat.{ℕ}

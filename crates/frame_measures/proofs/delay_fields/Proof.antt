@@ -1,4 +1,4 @@
--- `measures::delay_fields` meets its contract: the stamps of a good DMM or DMR.
+-- `frame_measures::delay_fields` meets its contract: the stamps of a good DMM or DMR.
 use mathlib.Core.Path.{_≡_, refl, sym, ap, _∙_}
 use mathlib.Core.List.{List}
 use Prim.Native.Nat.{ℕ}

@@ -1,4 +1,4 @@
--- `measures::loss_fields` meets its contract: the counts of a good LMM or LMR.
+-- `frame_measures::loss_fields` meets its contract: the counts of a good LMM or LMR.
 use mathlib.Core.Path.{_≡_, refl, sym, ap, _∙_}
 use mathlib.Core.List.{List}
 use Prim.Native.Nat.{ℕ}

@@ -1,4 +1,4 @@
--- `incoming::code_good` meets its contract, case by case.
+-- `frame_message::code_good` meets its contract, case by case.
 use mathlib.Core.Path.{sym, ap}
 use Rattle.frame_opcodes.specs.declared.Handler.{Handler}
 use Rattle.frame_message.specs.Message.{codeGood}

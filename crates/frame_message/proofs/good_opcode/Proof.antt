@@ -1,4 +1,4 @@
--- `incoming::good_opcode` meets its contract: the opcode that the answer tells.
+-- `frame_message::good_opcode` meets its contract: the opcode that the answer tells.
 use mathlib.Core.Path.{ap, _∙_}
 use Rattle.frame_message_answer.specs.declared.MessageTold.{MessageTold}
 use borrow.Author.Needs.{needs}

@@ -1,4 +1,4 @@
--- `incoming::judged` meets its contract: the handler where the code is good, else D7.
+-- `frame_message::judged` meets its contract: the handler where the code is good, else D7.
 use mathlib.Core.Bool.{Bool, cond}
 use Prim.Native.Nat.{ℕ}
 use mathlib.Core.Path.{_≡_, sym, ap, _∙_}

@@ -1,4 +1,4 @@
--- `incoming::message_answer` meets its contract: the reader's reason, or what the opcode and flags say.
+-- `frame_message::message_answer` meets its contract: the reader's reason, or what the opcode and flags say.
 use mathlib.Core.Path.{refl, sym, ap, _∙_}
 use mathlib.Core.List.{List}
 use Prim.Native.Nat.{ℕ}

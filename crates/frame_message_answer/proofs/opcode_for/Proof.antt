@@ -1,4 +1,4 @@
--- `kinds::opcode_for` keeps its promise: each part is found by search.
+-- `frame_message_answer::opcode_for` keeps its promise: each part is found by search.
 use borrow.Author.Needs.{needs}
 use Rattle.frame_message_answer.proofs.opcode_for.Statement.{statement}
 use Rattle.frame_message_answer.proofs.opcode_for.Tie as tie

@@ -1,4 +1,4 @@
--- `kinds::tell` meets its contract, case by case; a bad frame's numbers are the reader's.
+-- `frame_message_answer::tell` meets its contract, case by case; a bad frame's numbers are the reader's.
 use mathlib.Core.Path.{sym, ap, _∙_}
 use Rattle.frame_reader_answer.specs.declared.TlvTold.{TlvTold}
 use Rattle.frame_reader_answer.specs.Told.{told as reader-told}

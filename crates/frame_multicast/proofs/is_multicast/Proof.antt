@@ -1,4 +1,4 @@
--- `address::is_multicast` meets its contract: six octets, the prefix in front and the level's octet behind it.
+-- `frame_multicast::is_multicast` meets its contract: six octets, the prefix in front and the level's octet behind it.
 use native.Mathlib.Omega.{arith}
 use Prim.Native.Nat.{ℕ}
 use mathlib.Core.Path.{sym, ap, _∙_}

@@ -1,4 +1,4 @@
--- `address::last_of` meets its contract: 3 shifted up by 4, and three bits below it.
+-- `frame_multicast::last_of` meets its contract: 3 shifted up by 4, and three bits below it.
 use native.Mathlib.Omega.{arith}
 use Prim.Native.Nat.{ℕ, _+_, _%_, _^_, _<_}
 use mathlib.Core.Path.{_≡_, ap, _∙_}

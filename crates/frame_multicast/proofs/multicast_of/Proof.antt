@@ -1,4 +1,4 @@
--- `address::multicast_of` meets its contract: the prefix, and the level's octet behind it.
+-- `frame_multicast::multicast_of` meets its contract: the prefix, and the level's octet behind it.
 use Prim.Native.Nat.{ℕ}
 use mathlib.Core.Path.{ap}
 use mathlib.Core.List.{[], _∷_, _++_}

@@ -1,4 +1,4 @@
--- `opcodes::is_handled` meets its contract: each handler as the box has it.
+-- `frame_opcodes::is_handled` meets its contract: each handler as the box has it.
 use mathlib.Core.Path.{sym, ap}
 use borrow.Author.Needs.{needs}
 use Rattle.frame_opcodes.specs.Opcodes.{handled}

@@ -1,4 +1,4 @@
--- `opcodes::is_known` meets its contract: each handler as the table has it.
+-- `frame_opcodes::is_known` meets its contract: each handler as the table has it.
 use mathlib.Core.Path.{sym, ap}
 use borrow.Author.Needs.{needs}
 use Rattle.frame_opcodes.specs.Opcodes.{known}

@@ -1,4 +1,4 @@
--- `opcodes::rule_of` meets its contract: each arm is its row of `ruleOf`, and any other opcode is nobody's.
+-- `frame_opcodes::rule_of` meets its contract: each arm is its row of `ruleOf`, and any other opcode is nobody's.
 use mathlib.Core.Path.{sym, ap, _∙_}
 use borrow.Author.Needs.{needs}
 use Rattle.base_laws.specs.Tests.{choose}

@@ -1,4 +1,4 @@
--- `reader::tlv_answer` meets its contract: what the search found, without its place.
+-- `frame_reader::tlv_answer` meets its contract: what the search found, without its place.
 use mathlib.Core.Path.{_≡_, sym, ap, _∙_}
 use mathlib.Core.List.{List}
 use Prim.Native.Nat.{ℕ}

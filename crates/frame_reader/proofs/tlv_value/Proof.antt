@@ -1,4 +1,4 @@
--- `reader::tlv_value` meets its contract: the part that the search found, with its place; an empty one at the frame's start.
+-- `frame_reader::tlv_value` meets its contract: the part that the search found, with its place; an empty one at the frame's start.
 use native.Mathlib.Omega.{arith}
 use native.Mathlib.Nat.{add-sub-cancel-left}
 use mathlib.Core.Path.{_≡_, sym, ap, _∙_, subst}

@@ -1,4 +1,4 @@
--- `reasons::tell` meets its contract: each arm is its line of `told`.
+-- `frame_reader_answer::tell` meets its contract: each arm is its line of `told`.
 use mathlib.Core.Path.{sym, ap, _∙_}
 use borrow.Author.Needs.{needs}
 use Rattle.frame_reader_answer.specs.Told.{told}

@@ -1,4 +1,4 @@
--- `reasons::tell_bad` meets its contract: each arm is its line of `badOf`.
+-- `frame_reader_answer::tell_bad` meets its contract: each arm is its line of `badOf`.
 use mathlib.Core.Path.{sym, ap}
 use borrow.Author.Needs.{needs}
 use Rattle.frame_reader_answer.specs.Told.{badOf}

@@ -1,4 +1,4 @@
--- `tlvs::walk` meets its contract. The loop's invariant: the walk from here stops where the walk from the start does. The measure is
+-- `frame_tlvs::walk` meets its contract. The loop's invariant: the walk from here stops where the walk from the start does. The measure is
 -- what is left of the PDU.
 use native.Mathlib.Omega.{arith}
 use mathlib.Core.Path.{_≡_, refl, ap, sym, _∙_}

@@ -1,4 +1,4 @@
--- `values::all_zero_test` meets its contract: the reader's answer, and the reader's part tested.
+-- `frame_value::all_zero_test` meets its contract: the reader's answer, and the reader's part tested.
 use mathlib.Core.Path.{ap, ap₂, _∙_}
 use borrow.Author.Needs.{needs}
 use Rattle.frame_value.specs.Values.{zeroPattern, outcomeOf}

@@ -1,4 +1,4 @@
--- `values::outcome` meets its contract, case by case.
+-- `frame_value::outcome` meets its contract, case by case.
 use mathlib.Core.Path.{refl, sym, ap, ap₂}
 use borrow.Author.Needs.{needs}
 use Rattle.frame_reader_answer.specs.declared.TlvAnswer.{TlvAnswer}

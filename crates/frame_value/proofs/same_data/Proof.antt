@@ -1,4 +1,4 @@
--- `values::same_data` meets its contract: the reader's answer, and the reader's part compared.
+-- `frame_value::same_data` meets its contract: the reader's answer, and the reader's part compared.
 use mathlib.Core.Path.{ap, ap₂, _∙_}
 use mathlib.Core.List.{List}
 use Prim.Native.Nat.{ℕ}

@@ -1,4 +1,4 @@
--- `values::zero_pattern` meets its contract: zeros alone, and the pattern type among them. The loop's invariant: what is left to test decides. The
+-- `frame_value::zero_pattern` meets its contract: zeros alone, and the pattern type among them. The loop's invariant: what is left to test decides. The
 -- measure is what is left.
 use native.Mathlib.Omega.{arith}
 use Prim.Native.Nat.{_-_}

@@ -1,4 +1,4 @@
--- `valueanswer::tell` meets its contract, case by case; a bad frame's numbers are the reader's.
+-- `frame_value_answer::tell` meets its contract, case by case; a bad frame's numbers are the reader's.
 use mathlib.Core.Path.{sym, ap, _∙_}
 use borrow.Author.Needs.{needs}
 use Rattle.frame_reader_answer.specs.declared.TlvTold.{TlvTold}

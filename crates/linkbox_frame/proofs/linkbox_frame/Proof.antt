@@ -1,4 +1,4 @@
--- `linkframe::linkbox_frame` meets its contract: the room's answer, told.
+-- `linkbox_frame::linkbox_frame` meets its contract: the room's answer, told.
 use mathlib.Core.Path.{sym, ap, _∙_}
 use Rattle.receive_carry_out.specs.CarryOut.{Framed}
 use borrow.Author.Needs.{needs}

@@ -1,4 +1,4 @@
--- `linkframe::side_of` meets its contract: the test picks the side.
+-- `linkbox_frame::side_of` meets its contract: the test picks the side.
 use borrow.Author.Tests.{eq-eqb, ne-eqb}
 use Rattle.linkbox_frame.proofs.side_of.Statement.{statement}
 use Rattle.linkbox_frame.proofs.side_of.Tie as tie

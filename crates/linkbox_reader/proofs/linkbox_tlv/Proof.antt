@@ -1,4 +1,4 @@
--- `linkreader::linkbox_tlv` meets its contract: what the search found, told.
+-- `linkbox_reader::linkbox_tlv` meets its contract: what the search found, told.
 use mathlib.Core.Path.{sym, ap, _∙_}
 use Rattle.linkbox_reader.specs.Tlvs.{tlvAt}
 use borrow.Author.Needs.{needs}

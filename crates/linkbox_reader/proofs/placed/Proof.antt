@@ -1,4 +1,4 @@
--- `linkreader::placed` meets its contract: the answer's numbers, told.
+-- `linkbox_reader::placed` meets its contract: the answer's numbers, told.
 use borrow.Author.Needs.{needs}
 use Rattle.linkbox_reader.proofs.placed.Statement.{statement}
 use Rattle.linkbox_reader.proofs.placed.Tie as tie

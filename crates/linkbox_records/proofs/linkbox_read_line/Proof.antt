@@ -1,4 +1,4 @@
--- `linkrecord::linkbox_read_line` meets its contract: the room's answer, told.
+-- `linkbox_records::linkbox_read_line` meets its contract: the room's answer, told.
 use mathlib.Core.Path.{_∙_}
 use borrow.Author.Needs.{needs}
 use Rattle.linkbox_records.proofs.linkbox_read_line.Statement.{statement}

@@ -1,4 +1,4 @@
--- `linkrecord::linkbox_read_settings` keeps its promise: each part is found by search.
+-- `linkbox_records::linkbox_read_settings` keeps its promise: each part is found by search.
 use borrow.Author.Needs.{needs}
 use Rattle.linkbox_records.proofs.linkbox_read_settings.Statement.{statement}
 use Rattle.linkbox_records.proofs.linkbox_read_settings.Tie as tie

@@ -1,4 +1,4 @@
--- `linksend::linkbox_send_dmm` meets its contract: the room's answer, told.
+-- `linkbox_send::linkbox_send_dmm` meets its contract: the room's answer, told.
 use mathlib.Core.Path.{ap, _∙_}
 use Rattle.call_send_dmm.specs.Dmm.{DmmEnd}
 use borrow.Author.Needs.{needs}

@@ -1,4 +1,4 @@
--- `linksend::linkbox_send_lmm` meets its contract: the room's answer, told.
+-- `linkbox_send::linkbox_send_lmm` meets its contract: the room's answer, told.
 use mathlib.Core.Path.{ap, _∙_}
 use Rattle.call_send_lmm.specs.Lmm.{LmmEnd}
 use borrow.Author.Needs.{needs}

@@ -1,4 +1,4 @@
--- `linksend::linkbox_tick` meets its contract: the room's answer, told.
+-- `linkbox_send::linkbox_tick` meets its contract: the room's answer, told.
 use mathlib.Core.Path.{ap, _∙_}
 use Rattle.call_tick.specs.Tick.{Ticked}
 use borrow.Author.Needs.{needs}

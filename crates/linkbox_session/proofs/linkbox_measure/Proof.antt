@@ -1,4 +1,4 @@
--- `linkcard::linkbox_measure` meets its contract: a walk of its code by hand. The borrow is opened, the session is copied out and passed to `answer`
+-- `linkbox_session::linkbox_measure` meets its contract: a walk of its code by hand. The borrow is opened, the session is copied out and passed to `answer`
 -- by value, what comes back is written where the old one lay, and the borrow is closed at it. Assumes nothing.
 use mathlib.Core.Path.{_≡_, refl, ap}
 use Prim.Native.Nat.{ℕ, _<_, _^_}

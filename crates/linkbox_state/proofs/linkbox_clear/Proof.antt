@@ -1,4 +1,4 @@
--- `linkstate::linkbox_clear` meets its contract: the room's answer, told.
+-- `linkbox_state::linkbox_clear` meets its contract: the room's answer, told.
 use mathlib.Core.Path.{ap, _∙_}
 use Rattle.call_clear.specs.declared.ClearTold.{ClearTold}
 use Rattle.call_clear.specs.Clear.{ClearEnd}

@@ -1,4 +1,4 @@
--- `linkstate::linkbox_conditions` keeps its promise: each part is found by search.
+-- `linkbox_state::linkbox_conditions` keeps its promise: each part is found by search.
 use borrow.Author.Needs.{needs}
 use Rattle.linkbox_state.proofs.linkbox_conditions.Statement.{statement}
 use Rattle.linkbox_state.proofs.linkbox_conditions.Tie as tie

@@ -1,4 +1,4 @@
--- `linkstate::linkbox_new_setting` meets its contract: the room's answer, told, and its state.
+-- `linkbox_state::linkbox_new_setting` meets its contract: the room's answer, told, and its state.
 use Prim.Native.Nat.{ℕ}
 use mathlib.Core.Path.{_≡_, ap, _∙_}
 use Rattle.call_setting_answer.specs.declared.SettingTold.{SettingTold}

@@ -1,4 +1,4 @@
--- `growth::growth_of` keeps its promise: each part is found by search.
+-- `loss_growth::growth_of` keeps its promise: each part is found by search.
 use borrow.Author.Needs.{needs}
 use Rattle.loss_growth.proofs.growth_of.Statement.{statement}
 use Rattle.loss_growth.proofs.growth_of.Tie as tie

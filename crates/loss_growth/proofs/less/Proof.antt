@@ -1,4 +1,4 @@
--- `growth::less` meets its contract: two widened counts, subtracted with their sign.
+-- `loss_growth::less` meets its contract: two widened counts, subtracted with their sign.
 use native.Mathlib.Omega.{arith}
 use mathlib.Core.Path.{_∙_}
 use mir.Facts.{toZ-ofZ}

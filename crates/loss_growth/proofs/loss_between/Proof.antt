@@ -1,4 +1,4 @@
--- `growth::loss_between` meets its contract: two growths, one subtracted from the other with its sign.
+-- `loss_growth::loss_between` meets its contract: two growths, one subtracted from the other with its sign.
 use mathlib.Core.Path.{_≡_, refl, ap₂, _∙_}
 use lib.IntN.{subℕ}
 use mir.Syntax.{w64}

@@ -1,4 +1,4 @@
--- `card::answer` meets its contract: the session's rule, and its answer told in numbers.
+-- `loss_lent::answer` meets its contract: the session's rule, and its answer told in numbers.
 use mathlib.Core.Path.{ap, ap₂, _∙_}
 use Rattle.loss_session.specs.declared.LossSession.{LossSession}
 use Rattle.loss_reading.specs.declared.LossTold.{LossTold}

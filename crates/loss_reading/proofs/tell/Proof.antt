@@ -1,4 +1,4 @@
--- `loss::tell` meets its contract: each arm is its line of `told`.
+-- `loss_reading::tell` meets its contract: each arm is its line of `told`.
 use mir.Syntax.{w64}
 use mir.Val.{SFits}
 use Rattle.base_laws.proofs.Stored.{back}

@@ -1,4 +1,4 @@
--- `session::size` meets its contract, -2^63 included: below 0 it is one more than -1 less the number, which no cast loses.
+-- `loss_session::size` meets its contract, -2^63 included: below 0 it is one more than -1 less the number, which no cast loses.
 use native.Mathlib.Omega.{arith}
 use mathlib.Core.Path.{sym}
 use mir.Facts.{fits-natAbs}

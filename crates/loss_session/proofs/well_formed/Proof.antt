@@ -1,4 +1,4 @@
--- `session::well_formed` meets its contract: the code's `&` and `|` are the definition's, and each size is that of the field.
+-- `loss_session::well_formed` meets its contract: the code's `&` and `|` are the definition's, and each size is that of the field.
 use Prim.Native.Nat.{ℕ, _*_}
 use mathlib.Core.Path.{_≡_, refl, ap, _∙_}
 use mathlib.Core.Bool.{Bool, _&&_, _||_}

@@ -1,4 +1,4 @@
--- `lossstep::take_reading` meets its contract: at each return the tests that led there pick the case of `afterReading`.
+-- `loss_step::take_reading` meets its contract: at each return the tests that led there pick the case of `afterReading`.
 use mathlib.Core.Path.{_≡_, sym, ap, _∙_}
 use mathlib.Core.Bool.{true}
 use native.Mathlib.Omega.{arith}

@@ -1,4 +1,4 @@
--- `continuity::write_ccm` meets its contract: address, head and fixed part, each laid behind the one before it.
+-- `message_ccm::write_ccm` meets its contract: address, head and fixed part, each laid behind the one before it.
 use mathlib.Core.Path.{_≡_, sym, ap, _∙_}
 use mathlib.Core.List.{List}
 use Prim.Native.Nat.{ℕ}

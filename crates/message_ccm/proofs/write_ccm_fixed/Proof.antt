@@ -1,4 +1,4 @@
--- `continuity::write_ccm_fixed` meets its contract: seven pieces, each laid behind the one before it.
+-- `message_ccm::write_ccm_fixed` meets its contract: seven pieces, each laid behind the one before it.
 use denote.Ref.{now}
 use Rattle.message_ccm.proofs.Laid.{fixed-laid}
 use borrow.Author.Needs.{needs}

@@ -1,4 +1,4 @@
--- `writedmm::write_dmm` meets its contract: destination, head, what is sent and zeros, each laid behind the one before it.
+-- `message_dmm::write_dmm` meets its contract: destination, head, what is sent and zeros, each laid behind the one before it.
 use mathlib.Core.Path.{_≡_, sym}
 use native.Mathlib.Omega.{arith}
 use denote.Ref.{now}

@@ -1,4 +1,4 @@
--- `writelmm::write_lmm` meets its contract: destination, head, what is sent and zeros, each laid behind the one before it.
+-- `message_lmm::write_lmm` meets its contract: destination, head, what is sent and zeros, each laid behind the one before it.
 use mathlib.Core.Path.{_≡_, sym}
 use native.Mathlib.Omega.{arith}
 use denote.Ref.{now}

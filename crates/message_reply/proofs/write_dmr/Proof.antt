@@ -1,4 +1,4 @@
--- `reply::write_dmr` meets its contract: the reply with opcode 46, and two stamps laid inside it.
+-- `message_reply::write_dmr` meets its contract: the reply with opcode 46, and two stamps laid inside it.
 use mathlib.Core.Path.{_≡_}
 use native.Mathlib.Omega.{arith}
 use denote.Ref.{now}

@@ -1,4 +1,4 @@
--- `reply::write_lbr` meets its contract: the reply with opcode 2.
+-- `message_reply::write_lbr` meets its contract: the reply with opcode 2.
 use mathlib.Core.Path.{_≡_}
 use native.Mathlib.Omega.{arith}
 use denote.Ref.{now}

@@ -1,4 +1,4 @@
--- `reply::write_lmr` meets its contract: the reply with opcode 42, and two counts laid inside it.
+-- `message_reply::write_lmr` meets its contract: the reply with opcode 42, and two counts laid inside it.
 use mathlib.Core.Path.{_≡_}
 use native.Mathlib.Omega.{arith}
 use denote.Ref.{now}

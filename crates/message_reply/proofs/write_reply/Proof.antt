@@ -1,4 +1,4 @@
--- `reply::write_reply` meets its contract: the request is laid, and three pieces inside it.
+-- `message_reply::write_reply` meets its contract: the request is laid, and three pieces inside it.
 use mathlib.Core.Path.{_≡_}
 use native.Mathlib.Omega.{arith}
 use denote.Ref.{now}

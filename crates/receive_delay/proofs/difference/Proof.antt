@@ -1,4 +1,4 @@
--- `delay::difference` meets its contract: two widened stamps, subtracted with their sign.
+-- `receive_delay::difference` meets its contract: two widened stamps, subtracted with their sign.
 use native.Mathlib.Omega.{arith}
 use mathlib.Core.Path.{ap₂, _∙_}
 use lib.IntN.{subℕ}

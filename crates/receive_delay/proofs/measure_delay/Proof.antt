@@ -1,4 +1,4 @@
--- `delay::measure_delay` meets its contract: the tests that led to a return pick the case, the sizes of the differences rule D8 out, and a
+-- `receive_delay::measure_delay` meets its contract: the tests that led to a return pick the case, the sizes of the differences rule D8 out, and a
 -- signed number that was stored and read again is what it was.
 use mathlib.Core.Path.{_≡_, sym, ap, ap₂, _∙_}
 use mathlib.Core.Bool.{true}

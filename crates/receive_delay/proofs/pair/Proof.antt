@@ -1,4 +1,4 @@
--- `delay::pair` meets its contract: both are given.
+-- `receive_delay::pair` meets its contract: both are given.
 use mathlib.Core.Path.{ap₂}
 use mathlib.Core.Bool.{_&&_}
 use borrow.Author.Needs.{needs}

@@ -1,4 +1,4 @@
--- `delay::stamps_good` meets its contract: the code's `&`, `|` and `!` are the definition's.
+-- `receive_delay::stamps_good` meets its contract: the code's `&`, `|` and `!` are the definition's.
 use mathlib.Core.Path.{_≡_, refl}
 use mathlib.Core.Bool.{Bool, _&&_, _||_, not}
 use borrow.Author.Needs.{needs}

@@ -1,4 +1,4 @@
--- `handle::reading_in` keeps its promise: each part is found by search.
+-- `receive_handle::reading_in` keeps its promise: each part is found by search.
 use borrow.Author.Needs.{needs}
 use Rattle.receive_handle.proofs.reading_in.Statement.{statement}
 use Rattle.receive_handle.proofs.reading_in.Tie as tie

@@ -1,4 +1,4 @@
--- Each arm is its line of `signalled`, a word stored (places) or a slot. Assumes nothing.
+-- Each arm is its line of `signalled`, a word stored (`state_places`) or a slot. Assumes nothing.
 use Prim.Native.Nat.{ℕ}
 use mathlib.Core.Path.{_≡_, sym, ap, _∙_}
 use mathlib.Core.List.{List}

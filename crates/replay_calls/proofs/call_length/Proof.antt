@@ -1,4 +1,4 @@
--- `calls::call_length` meets its contract, by its two tests.
+-- `replay_calls::call_length` meets its contract, by its two tests.
 use native.Mathlib.Omega.{arith}
 use denote.Ref.{now}
 use Rattle.replay_calls.proofs.Calls.{length-low, length-high, length-in}

@@ -1,4 +1,4 @@
--- `calls::hands_over` meets its contract: what stands in the number's row.
+-- `replay_calls::hands_over` meets its contract: what stands in the number's row.
 use mathlib.Core.Path.{ap}
 use lib.Dec.{ltb}
 use native.Mathlib.Omega.{arith}

@@ -1,4 +1,4 @@
--- `calls::room_of` meets its contract, by its three tests.
+-- `replay_calls::room_of` meets its contract, by its three tests.
 use native.Mathlib.Omega.{arith}
 use mathlib.Core.Path.{_≡_, ap, _∙_}
 use denote.Ref.{now}

@@ -1,4 +1,4 @@
--- `calls::row_of` meets its contract, by its two tests.
+-- `replay_calls::row_of` meets its contract, by its two tests.
 use native.Mathlib.Omega.{arith}
 use Rattle.replay_calls.proofs.Calls.{row-below, row-above, row-in}
 use borrow.Author.Needs.{needs}

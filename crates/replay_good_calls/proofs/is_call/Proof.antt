@@ -1,4 +1,4 @@
--- `goodcalls::is_call` meets its contract: four tests joined.
+-- `replay_good_calls::is_call` meets its contract: four tests joined.
 use Prim.Native.Nat.{_-_, _<_}
 use mathlib.Core.Path.{ap, _∙_}
 use mathlib.Core.Bool.{Bool, _&&_}

@@ -1,4 +1,4 @@
--- `goodcalls::side_good` meets its contract, by its two tests.
+-- `replay_good_calls::side_good` meets its contract, by its two tests.
 use native.Mathlib.Omega.{arith}
 use denote.Ref.{now}
 use Rattle.replay_good_calls.proofs.GoodCalls.{side-other, side-cut, side-there}

@@ -1,4 +1,4 @@
--- `sessionin::session_in` meets its contract: each number from its field.
+-- `replay_session_read::session_in` meets its contract: each number from its field.
 use mathlib.Core.Path.{_≡_}
 use mir.Syntax.{w64}
 use mir.Val.{toZ, ofZ}

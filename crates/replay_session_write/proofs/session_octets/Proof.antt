@@ -1,4 +1,4 @@
--- `sessionoctets::session_octets` meets its contract: eight fields, each laid behind the one before it.
+-- `replay_session_write::session_octets` meets its contract: eight fields, each laid behind the one before it.
 use mathlib.Core.Path.{_≡_, refl}
 use mir.Syntax.{w64}
 use mir.Val.{toZ, ofZ}

@@ -1,4 +1,4 @@
--- `statein::run_in` meets its contract: each word from its field, or from the session.
+-- `replay_state_read::run_in` meets its contract: each word from its field, or from the session.
 use borrow.Author.Needs.{needs}
 use Rattle.replay_state_read.proofs.run_in.Statement.{statement}
 use Rattle.replay_state_read.proofs.run_in.Tie as tie

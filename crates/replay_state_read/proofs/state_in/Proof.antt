@@ -1,4 +1,4 @@
--- `statein::state_in` meets its contract: the settings, the words of the slots, the session, and the running words.
+-- `replay_state_read::state_in` meets its contract: the settings, the words of the slots, the session, and the running words.
 use mathlib.Core.Path.{_≡_, refl, _∙_}
 use denote.Ref.{now}
 use lib.ListN.{length, replicate}

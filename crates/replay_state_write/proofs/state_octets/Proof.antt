@@ -1,4 +1,4 @@
--- `stateoctets::state_octets` meets its contract: three pieces, each laid behind the one before it.
+-- `replay_state_write::state_octets` meets its contract: three pieces, each laid behind the one before it.
 use mathlib.Core.Path.{_≡_, refl, ap, _∙_}
 use mathlib.Core.List.{List}
 use Prim.Native.Nat.{ℕ}

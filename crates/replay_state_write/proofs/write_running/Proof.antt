@@ -1,4 +1,4 @@
--- `stateoctets::write_running` meets its contract: four pieces, each laid behind the one before it.
+-- `replay_state_write::write_running` meets its contract: four pieces, each laid behind the one before it.
 use mathlib.Core.Path.{refl}
 use native.Mathlib.Omega.{arith}
 use denote.Ref.{now}

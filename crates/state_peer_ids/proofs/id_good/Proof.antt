@@ -1,4 +1,4 @@
--- `peerids::id_good` keeps its promise: each part is found by search.
+-- `state_peer_ids::id_good` keeps its promise: each part is found by search.
 use borrow.Author.Needs.{needs}
 use Rattle.state_peer_ids.proofs.id_good.Statement.{statement}
 use Rattle.state_peer_ids.proofs.id_good.Tie as tie

@@ -1,4 +1,4 @@
--- `peerids::ids_good` meets its contract. The invariant: what was found so far, and the IDs from i on, decide as all do.
+-- `state_peer_ids::ids_good` meets its contract. The invariant: what was found so far, and the IDs from i on, decide as all do.
 use Prim.Native.Nat.{_+_, _-_}
 use mathlib.Core.Path.{sym, subst}
 use mathlib.Core.Bool.{Bool, _&&_}

@@ -1,4 +1,4 @@
--- `peerids::peers_good` meets its contract: the used slots tested in front, the others behind them.
+-- `state_peer_ids::peers_good` meets its contract: the used slots tested in front, the others behind them.
 use mathlib.Core.Path.{sym}
 use native.Mathlib.Omega.{arith}
 use denote.Ref.{now}

@@ -1,4 +1,4 @@
--- `settings::addresses_good` meets its contract: the group bits in place, and both addresses compared.
+-- `state_settings::addresses_good` meets its contract: the group bits in place, and both addresses compared.
 use Prim.Native.Nat.{ℕ, _%_}
 use mathlib.Core.Path.{_≡_, sym}
 use mathlib.Core.Bool.{Bool, _&&_, not}

@@ -1,4 +1,4 @@
--- `settings::is_valid` meets its contract: the three groups of rules, one behind the other.
+-- `state_settings::is_valid` meets its contract: the three groups of rules, one behind the other.
 use mathlib.Core.Path.{sym, _∙_}
 use borrow.Author.Tests.{not-true, not-false}
 use borrow.Author.Needs.{needs}

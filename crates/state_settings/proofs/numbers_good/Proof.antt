@@ -1,4 +1,4 @@
--- `settings::numbers_good` keeps its promise: each part is found by search.
+-- `state_settings::numbers_good` keeps its promise: each part is found by search.
 use borrow.Author.Needs.{needs}
 use Rattle.state_settings.proofs.numbers_good.Statement.{statement}
 use Rattle.state_settings.proofs.numbers_good.Tie as tie

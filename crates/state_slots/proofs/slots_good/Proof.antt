@@ -1,4 +1,4 @@
--- `slots::slots_good` meets its contract: two runs of words, and what stands behind their used slots.
+-- `state_slots::slots_good` meets its contract: two runs of words, and what stands behind their used slots.
 use borrow.Author.Needs.{needs}
 use Rattle.state_slots.proofs.slots_good.Statement.{statement}
 use Rattle.state_slots.proofs.slots_good.Tie as tie

@@ -1,4 +1,4 @@
--- `slots::unused_empty` meets its contract. The invariant: the slots joined so far, and those from i on, decide as all do.
+-- `state_slots::unused_empty` meets its contract. The invariant: the slots joined so far, and those from i on, decide as all do.
 use Prim.Native.Nat.{_+_, _-_, _≤_}
 use mathlib.Core.Path.{_≡_, sym, subst}
 use mathlib.Core.Bool.{Bool}

@@ -1,4 +1,4 @@
--- `slots::unused_word` meets its contract.
+-- `state_slots::unused_word` meets its contract.
 use mathlib.Core.Path.{refl}
 use native.Mathlib.Omega.{arith}
 use borrow.Author.Tests.{lt-ltb, le-ltb}

@@ -1,4 +1,4 @@
--- `standing::any_stands` meets its contract: seven tests, one beside the other.
+-- `state_standing::any_stands` meets its contract: seven tests, one beside the other.
 use mathlib.Core.Path.{ap, _∙_}
 use Rattle.base_laws.specs.Lists.{absent}
 use Rattle.state_standing.specs.Standing.{standing}

@@ -1,4 +1,4 @@
--- `standing::flag_of` keeps its promise: each part is found by search.
+-- `state_standing::flag_of` keeps its promise: each part is found by search.
 use borrow.Author.Needs.{needs}
 use Rattle.state_standing.proofs.flag_of.Statement.{statement}
 use Rattle.state_standing.proofs.flag_of.Tie as tie

@@ -1,4 +1,4 @@
--- `standing::front` meets its contract: the used slots.
+-- `state_standing::front` meets its contract: the used slots.
 use Prim.Native.Nat.{_≤_}
 use mathlib.Core.Path.{sym}
 use native.Mathlib.Omega.{arith}

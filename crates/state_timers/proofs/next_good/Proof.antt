@@ -1,4 +1,4 @@
--- `timers::next_good` keeps its promise: each part is found by search.
+-- `state_timers::next_good` keeps its promise: each part is found by search.
 use borrow.Author.Needs.{needs}
 use Rattle.state_timers.proofs.next_good.Statement.{statement}
 use Rattle.state_timers.proofs.next_good.Tie as tie

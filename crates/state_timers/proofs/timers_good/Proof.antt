@@ -1,4 +1,4 @@
--- `timers::timers_good` keeps its promise: each part is found by search.
+-- `state_timers::timers_good` keeps its promise: each part is found by search.
 use borrow.Author.Needs.{needs}
 use Rattle.state_timers.proofs.timers_good.Statement.{statement}
 use Rattle.state_timers.proofs.timers_good.Tie as tie

@@ -1,4 +1,4 @@
--- `state::session_of` keeps its promise: each part is found by search.
+-- `state_view::session_of` keeps its promise: each part is found by search.
 use borrow.Author.Needs.{needs}
 use Rattle.state_view.proofs.session_of.Statement.{statement}
 use Rattle.state_view.proofs.session_of.Tie as tie

@@ -1,4 +1,4 @@
--- `wellformed::is_well_formed` meets its contract: five groups of rules, one behind the other.
+-- `state_well_formed::is_well_formed` meets its contract: five groups of rules, one behind the other.
 use Prim.Native.Nat.{ℕ}
 use mathlib.Core.Path.{_≡_, sym, ap, _∙_}
 use mathlib.Core.Bool.{Bool, true, false, _&&_}

@@ -1,4 +1,4 @@
--- `recordhead::is_record` meets its contract: too few octets, or the two fields of the head.
+-- `stored_head::is_record` meets its contract: too few octets, or the two fields of the head.
 use native.Mathlib.Omega.{arith}
 use denote.Ref.{now}
 use Rattle.stored_record.proofs.Laws.{too-short, fields-tell}

@@ -1,4 +1,4 @@
--- `recordhead::put_record` meets its contract: length, kind and body, each laid behind the one before it.
+-- `stored_head::put_record` meets its contract: length, kind and body, each laid behind the one before it.
 use native.Mathlib.Omega.{arith}
 use denote.Ref.{now}
 use Rattle.stored_record.proofs.Laws.{record-laid}

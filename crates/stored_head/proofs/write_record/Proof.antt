@@ -1,4 +1,4 @@
--- `recordhead::write_record` meets its contract: one law for each way that it ends.
+-- `stored_head::write_record` meets its contract: one law for each way that it ends.
 use native.Mathlib.Omega.{arith}
 use denote.Ref.{now}
 use Rattle.stored_record.proofs.Writing.{ends-4, ends-3, ends-written, fits}

@@ -1,4 +1,4 @@
--- `lossrecord::tell` meets its contract: each arm is its line of `told`.
+-- `stored_line::tell` meets its contract: each arm is its line of `told`.
 use mathlib.Core.Path.{_≡_, sym, ap}
 use mir.Syntax.{w64}
 use mir.Val.{toZ, ofZ}

@@ -1,4 +1,4 @@
--- `lossline::keeps_rules` meets its contract: the rules of the session that it makes.
+-- `stored_line_calls::keeps_rules` meets its contract: the rules of the session that it makes.
 use mathlib.Core.Path.{_≡_}
 use mir.Syntax.{w64}
 use mir.Val.{toZ, ofZ}

@@ -1,4 +1,4 @@
--- `lossline::line_in` meets its contract: three fields behind the head.
+-- `stored_line_calls::line_in` meets its contract: three fields behind the head.
 use mathlib.Core.Path.{_≡_}
 use mir.Syntax.{w64}
 use mir.Val.{toZ, ofZ}

@@ -1,4 +1,4 @@
--- `lossline::read_line` meets its contract: one law for each way that it ends.
+-- `stored_line_calls::read_line` meets its contract: one law for each way that it ends.
 use denote.Ref.{now}
 use Rattle.stored_line.proofs.Calls.{ends-head, long-enough, ends-rule, ends-line}
 use borrow.Author.Needs.{needs}

@@ -1,4 +1,4 @@
--- `lossline::write_line` meets its contract: three fields, each laid behind the one before it, are the body; it and whether the line keeps the rules
+-- `stored_line_calls::write_line` meets its contract: three fields, each laid behind the one before it, are the body; it and whether the line keeps the rules
 -- are handed to the writer of records.
 use denote.Ref.{now}
 use mathlib.Core.Path.{_≡_, refl, ap₂, _∙_}

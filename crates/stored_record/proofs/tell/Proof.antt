@@ -1,4 +1,4 @@
--- `record::tell` meets its contract: each arm is its line of `told`.
+-- `stored_record::tell` meets its contract: each arm is its line of `told`.
 use mathlib.Core.Path.{sym, ap}
 use Rattle.stored_record.specs.Writing.{told}
 use borrow.Author.Needs.{needs}

@@ -1,4 +1,4 @@
--- `replies::answer_at` meets its contract: four counts, one behind the other, are the reading that the session is given.
+-- `stored_recount::answer_at` meets its contract: four counts, one behind the other, are the reading that the session is given.
 use mathlib.Core.Path.{ap, _∙_}
 use denote.Ref.{now}
 use Rattle.loss_lent.specs.Lent.{readingOf}

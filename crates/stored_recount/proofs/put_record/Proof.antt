@@ -1,4 +1,4 @@
--- `replies::put_record` meets its contract: the record of the session's line, copied to its place.
+-- `stored_recount::put_record` meets its contract: the record of the session's line, copied to its place.
 use denote.Ref.{now}
 use Prim.Native.Nat.{ℕ}
 use mathlib.Core.Path.{refl, ap, _∙_}

@@ -1,4 +1,4 @@
--- `replies::recount` meets its contract. The loop's invariant: the records of the replies so far stand in the buffer, and what the rest gives from the
+-- `stored_recount::recount` meets its contract. The loop's invariant: the records of the replies so far stand in the buffer, and what the rest gives from the
 -- session now is still to come. The measure is the replies that are left.
 use native.Mathlib.Omega.{arith}
 use denote.Ref.{now}

@@ -1,4 +1,4 @@
--- `settingsrecord::read_settings` meets its contract: the body is copied as it stands, and there is one law for each way that it ends.
+-- `stored_settings::read_settings` meets its contract: the body is copied as it stands, and there is one law for each way that it ends.
 use mathlib.Core.Path.{_∙_}
 use denote.Ref.{now}
 use Rattle.base_laws.specs.Lists.{part}

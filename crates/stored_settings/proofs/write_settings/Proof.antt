@@ -1,4 +1,4 @@
--- `settingsrecord::write_settings` meets its contract: the body, and whether the settings are valid, handed to the writer of records.
+-- `stored_settings::write_settings` meets its contract: the body, and whether the settings are valid, handed to the writer of records.
 use denote.Ref.{now}
 use Rattle.state_settings.specs.Settings.{settingsOf}
 use Rattle.state_settings.proofs.Shape.{handed-shaped}

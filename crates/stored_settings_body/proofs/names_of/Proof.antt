@@ -1,4 +1,4 @@
--- `settingsbody::names_of` meets its contract: three pieces, each laid behind the one before it.
+-- `stored_settings_body::names_of` meets its contract: three pieces, each laid behind the one before it.
 use mathlib.Core.Path.{refl}
 use denote.Ref.{now}
 use lib.ListN.{replicate}

@@ -1,4 +1,4 @@
--- `settingsbody::read_ids` meets its contract. The invariant: the first i IDs are read. The measure is how many are left.
+-- `stored_settings_body::read_ids` meets its contract. The invariant: the first i IDs are read. The measure is how many are left.
 use Prim.Native.Nat.{ℕ, _-_, _≤_}
 use mathlib.Core.Path.{_≡_, refl, ap, _∙_}
 use mathlib.Core.List.{List}

@@ -1,4 +1,4 @@
--- `settingsbody::settings_of` meets its contract: each number from its field, the names, the IDs.
+-- `stored_settings_body::settings_of` meets its contract: each number from its field, the names, the IDs.
 use denote.Ref.{now}
 use Rattle.base_laws.proofs.Loops.{part-rest}
 use borrow.Author.Needs.{needs}

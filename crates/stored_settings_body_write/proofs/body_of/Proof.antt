@@ -1,4 +1,4 @@
--- `settingsoctets::body_of` meets its contract: the fields, and the IDs behind them.
+-- `stored_settings_body_write::body_of` meets its contract: the fields, and the IDs behind them.
 use mathlib.Core.Path.{_≡_, refl}
 use denote.Ref.{now}
 use lib.ListN.{length, replicate}

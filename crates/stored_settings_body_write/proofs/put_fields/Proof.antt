@@ -1,4 +1,4 @@
--- `settingsoctets::put_fields` meets its contract: seven pieces, each laid behind the one before it.
+-- `stored_settings_body_write::put_fields` meets its contract: seven pieces, each laid behind the one before it.
 use mathlib.Core.Path.{_≡_}
 use mathlib.Core.List.{[]}
 use denote.Ref.{now}

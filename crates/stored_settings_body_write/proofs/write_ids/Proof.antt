@@ -1,4 +1,4 @@
--- `settingsoctets::write_ids` meets its contract. The invariant: the first i IDs are laid. The measure is how many are left.
+-- `stored_settings_body_write::write_ids` meets its contract. The invariant: the first i IDs are laid. The measure is how many are left.
 use Prim.Native.Nat.{ℕ, _+_, _*_, _-_, _≤_}
 use mathlib.Core.Path.{_≡_, refl, ap, _∙_}
 use mathlib.Core.List.{List}

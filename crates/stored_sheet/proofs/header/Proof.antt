@@ -1,4 +1,4 @@
--- `sheettext::header` keeps its promise: each part is found by search.
+-- `stored_sheet::header` keeps its promise: each part is found by search.
 use borrow.Author.Needs.{needs}
 use Rattle.stored_sheet.proofs.header.Statement.{statement}
 use Rattle.stored_sheet.proofs.header.Tie as tie

@@ -1,4 +1,4 @@
--- `lines::put_line` meets its contract: three numbers, one behind the other.
+-- `stored_sheet_lines::put_line` meets its contract: three numbers, one behind the other.
 use denote.Ref.{now}
 use mathlib.Core.Path.{_≡_}
 use mir.Syntax.{w64}

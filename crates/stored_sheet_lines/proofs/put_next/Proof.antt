@@ -1,4 +1,4 @@
--- `lines::put_next` meets its contract: the refusal at a bad record, the line of a good one.
+-- `stored_sheet_lines::put_next` meets its contract: the refusal at a bad record, the line of a good one.
 use native.Mathlib.Omega.{arith}
 use denote.Ref.{now}
 use mathlib.Core.Path.{_≡_, sym, _∙_}

@@ -1,4 +1,4 @@
--- `lines::put_number` meets its contract: the text of the number, and one octet stored behind it.
+-- `stored_sheet_lines::put_number` meets its contract: the text of the number, and one octet stored behind it.
 use native.Mathlib.Omega.{arith}
 use denote.Ref.{now}
 use lib.ListN.{length, length-set}

@@ -1,4 +1,4 @@
--- `lines::write_lines` meets its contract. The loop's invariant: the text of the records so far stands in the buffer, and the text of the rest is
+-- `stored_sheet_lines::write_lines` meets its contract. The loop's invariant: the text of the records so far stands in the buffer, and the text of the rest is
 -- still to come. The measure is what is left to read.
 use native.Mathlib.Omega.{arith}
 use borrow.Author.Needs.{needs}

@@ -1,4 +1,4 @@
--- `octets::numbers::read_big` meets its contract. The loop's invariant: the sum is the number in the first i octets. The measure is what is left of n.
+-- `base_octets::numbers::read_big` meets its contract. The loop's invariant: the sum is the number in the first i octets. The measure is what is left of n.
 use native.Mathlib.Omega.{arith}
 use mathlib.Core.Path.{_≡_, ap, sym, _∙_}
 use Prim.Native.Nat.{ℕ, _+_, _*_, _^_, _-_, _≤_, _<_}

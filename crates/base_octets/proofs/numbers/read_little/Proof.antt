@@ -1,4 +1,4 @@
--- `octets::numbers::read_little` meets its contract. The loop's invariant: the sum is the number in the octets from `left` on. The measure is `left`.
+-- `base_octets::numbers::read_little` meets its contract. The loop's invariant: the sum is the number in the octets from `left` on. The measure is `left`.
 use native.Mathlib.Omega.{arith}
 use mathlib.Core.Path.{_≡_, sym}
 use Prim.Native.Nat.{ℕ, _+_, _*_, _^_, _-_, _≤_, _<_}

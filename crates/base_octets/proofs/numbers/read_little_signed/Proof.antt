@@ -1,4 +1,4 @@
--- `octets::numbers::read_little_signed` meets its contract: eight octets are two halves of four; from 2 ^ 63 on the number is -1
+-- `base_octets::numbers::read_little_signed` meets its contract: eight octets are two halves of four; from 2 ^ 63 on the number is -1
 -- less what all ones exceed the bits by.
 use mir.Val.{toZ}
 use native.Mathlib.Omega.{arith}

@@ -1,4 +1,4 @@
--- `octets::numbers::write_big` meets its contract. The loop's invariant: the octets from `left` on are laid, and `rest` is the value without
+-- `base_octets::numbers::write_big` meets its contract. The loop's invariant: the octets from `left` on are laid, and `rest` is the value without
 -- them. The measure is `left`.
 use native.Mathlib.Omega.{arith}
 use native.Mathlib.Nat.{div-one}

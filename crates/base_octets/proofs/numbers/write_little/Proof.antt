@@ -1,4 +1,4 @@
--- `octets::numbers::write_little` meets its contract. The loop's invariant: the first i octets are laid, and `rest` is the value without
+-- `base_octets::numbers::write_little` meets its contract. The loop's invariant: the first i octets are laid, and `rest` is the value without
 -- them. The measure is what is left of n.
 use native.Mathlib.Omega.{arith}
 use native.Mathlib.Nat.{div-one}

@@ -1,4 +1,4 @@
--- `octets::numbers::write_little_signed` meets its contract. The loop's invariant: the first i octets of the two's complement are laid, and
+-- `base_octets::numbers::write_little_signed` meets its contract. The loop's invariant: the first i octets of the two's complement are laid, and
 -- `bits` is what is left of it. The measure is what is left of the eight.
 use mir.Syntax.{w64}
 use mir.Val.{ofZ}

@@ -1,4 +1,4 @@
--- `octets::parts::copy_octets` meets its contract. The loop's invariant: the first i octets are laid. The measure is what is left of them.
+-- `base_octets::parts::copy_octets` meets its contract. The loop's invariant: the first i octets are laid. The measure is what is left of them.
 use native.Mathlib.Omega.{arith}
 use mathlib.Core.Path.{_≡_, refl, ap, sym, _∙_}
 use mathlib.Core.List.{List}

@@ -1,4 +1,4 @@
--- `period::Period::from_code` meets its contract: each arm is its row of the tables, and every other code has no period.
+-- `base_period::Period::from_code` meets its contract: each arm is its row of the tables, and every other code has no period.
 use native.Mathlib.Nat.{not-le-of-lt}
 use Prim.Native.Nat.{_≤_}
 use mathlib.Core.Path.{sym, ap}

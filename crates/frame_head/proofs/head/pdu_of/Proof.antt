@@ -1,4 +1,4 @@
--- `frame::head::pdu_of` meets its contract: where the frame ends before its PDU, nothing is left of it; else the part behind the head.
+-- `frame_head::head::pdu_of` meets its contract: where the frame ends before its PDU, nothing is left of it; else the part behind the head.
 use mathlib.Core.Path.{sym, ap, _∙_}
 use mathlib.Core.Bool.{Bool, cond}
 use Prim.Native.Nat.{ℕ, _+_, _-_, _≤_}

@@ -1,4 +1,4 @@
--- `message::parts::write_head` meets its contract: source and EtherType are laid, and four octets stored behind them.
+-- `message_parts::parts::write_head` meets its contract: source and EtherType are laid, and four octets stored behind them.
 use native.Mathlib.Omega.{arith}
 use denote.Ref.{now}
 use lib.ListN.{length-set}

@@ -1,4 +1,4 @@
--- `message::parts::write_stamp` meets its contract: the seconds are laid, and the nanoseconds behind them.
+-- `message_parts::parts::write_stamp` meets its contract: the seconds are laid, and the nanoseconds behind them.
 use native.Mathlib.Omega.{arith}
 use denote.Ref.{now}
 use Rattle.message_parts.proofs.Laid.{stamp-laid}

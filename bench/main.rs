@@ -6,8 +6,8 @@ mod twin;
 
 #[cfg(tlv)]
 use ffi::TlvTold;
-use ffi::{Arrays as State, ConditionsTold, FrameTold, LineTold, LossLine, LossSession, LossTold, NewBox, PEERS, Readings, SettingArrays, SettingsRead};
-use ffi::{Stamp, Written};
+use ffi::{Arrays as State, ConditionsTold, FrameTold, LineTold, LossLine, LossSession, LossTold, Names, NewBox, Readings, Run, SettingArrays, SettingsRead};
+use ffi::{Set, Slots, Stamp, Totals, Written};
 use std::hint::black_box;
 use std::time::Instant;
 use twin::{HOLDS, NEXT, NOTHING, RECEIVED, TICKS};
@@ -100,35 +100,35 @@ macro_rules! compiled {
         struct $shape;
 
         unsafe extern "C" {
-            fn $new_setting(set: *const [u32; 4], names: *const [u8; 60], ids: *const [u32; PEERS]) -> NewBox;
+            fn $new_setting(set: *const Set, names: *const Names, ids: *const Slots) -> NewBox;
             fn $frame(
-                set: *const [u32; 4], names: *const [u8; 60], ids: *const [u32; PEERS], timers: *mut [u32; PEERS], rdi: *mut [u32; PEERS],
-                run: *mut [u32; 15], totals: *mut [i64; 2], side: u32, frame: *const u8, length: usize, receive: Stamp, transmit: Stamp, out: *mut u8,
+                set: *const Set, names: *const Names, ids: *const Slots, timers: *mut Slots, rdi: *mut Slots,
+                run: *mut Run, totals: *mut Totals, side: u32, frame: *const u8, length: usize, receive: Stamp, transmit: Stamp, out: *mut u8,
                 room: usize,
             ) -> FrameTold;
             fn $tick(
-                set: *const [u32; 4], names: *const [u8; 60], ids: *const [u32; PEERS], timers: *mut [u32; PEERS], rdi: *const [u32; PEERS],
-                run: *mut [u32; 15], totals: *const [i64; 2], out: *mut u8, room: usize,
+                set: *const Set, names: *const Names, ids: *const Slots, timers: *mut Slots, rdi: *const Slots,
+                run: *mut Run, totals: *const Totals, out: *mut u8, room: usize,
             ) -> Written;
             fn $clear(
-                set: *const [u32; 4], names: *const [u8; 60], ids: *const [u32; PEERS], timers: *const [u32; PEERS], rdi: *const [u32; PEERS],
-                run: *mut [u32; 15], totals: *mut [i64; 2],
+                set: *const Set, names: *const Names, ids: *const Slots, timers: *const Slots, rdi: *const Slots,
+                run: *mut Run, totals: *mut Totals,
             ) -> u32;
             fn $send_lmm(
-                set: *const [u32; 4], names: *const [u8; 60], ids: *const [u32; PEERS], timers: *const [u32; PEERS], rdi: *const [u32; PEERS],
-                run: *const [u32; 15], totals: *const [i64; 2], out: *mut u8, room: usize,
+                set: *const Set, names: *const Names, ids: *const Slots, timers: *const Slots, rdi: *const Slots,
+                run: *const Run, totals: *const Totals, out: *mut u8, room: usize,
             ) -> Written;
             fn $send_dmm(
-                set: *const [u32; 4], names: *const [u8; 60], ids: *const [u32; PEERS], timers: *const [u32; PEERS], rdi: *const [u32; PEERS],
-                run: *const [u32; 15], totals: *const [i64; 2], stamp: Stamp, out: *mut u8, room: usize,
+                set: *const Set, names: *const Names, ids: *const Slots, timers: *const Slots, rdi: *const Slots,
+                run: *const Run, totals: *const Totals, stamp: Stamp, out: *mut u8, room: usize,
             ) -> Written;
             fn $conditions(
-                set: *const [u32; 4], names: *const [u8; 60], ids: *const [u32; PEERS], timers: *const [u32; PEERS], rdi: *const [u32; PEERS],
-                run: *const [u32; 15], totals: *const [i64; 2],
+                set: *const Set, names: *const Names, ids: *const Slots, timers: *const Slots, rdi: *const Slots,
+                run: *const Run, totals: *const Totals,
             ) -> ConditionsTold;
             fn $measure(session: *mut LossSession, txf: u32, rxf: u32, txb: u32, ours: u32) -> LossTold;
             fn $read_settings(from: *const u8, length: usize) -> SettingsRead;
-            fn $write_settings(into: *mut u8, room: usize, set: *const [u32; 4], names: *const [u8; 60], ids: *const [u32; PEERS]) -> Written;
+            fn $write_settings(into: *mut u8, room: usize, set: *const Set, names: *const Names, ids: *const Slots) -> Written;
             fn $read_line(from: *const u8, length: usize) -> LineTold;
             fn $write_line(into: *mut u8, room: usize, line: LossLine) -> Written;
             #[cfg(tlv)]

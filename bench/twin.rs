@@ -1,7 +1,7 @@
 // The twin: the end point as a good Rust program would have it, without proofs. It has the same seven arrays, the same duties and the same
 // answers as the proved one, and none of its structure: one struct, early returns, slices, the standard library.
 
-use crate::ffi::{Arrays, ConditionFlags, ConditionsTold, FrameTold, LineTold, LossLine, LossSession, LossTold, NewBox, Readings, SettingArrays, SettingsRead};
+use crate::ffi::{Arrays, ConditionFlags, ConditionsTold, FrameTold, LineTold, LossLine, LossSession, LossTold, NewBox, RUN, Readings, SettingArrays, SettingsRead};
 use crate::ffi::{Stamp, Written};
 #[cfg(tlv)]
 use crate::ffi::TlvTold;
@@ -421,7 +421,7 @@ impl Arrays {
 }
 
 // A box that was never set.
-pub const NOTHING: Arrays = Arrays { set: [0; 4], names: [0; 60], ids: [0; 8], timers: [0; 8], rdi: [0; 8], run: [0; 15], totals: [0; 2] };
+pub const NOTHING: Arrays = Arrays { set: [0; 4], names: [0; 60], ids: [0; 8], timers: [0; 8], rdi: [0; 8], run: [0; RUN], totals: [0; 2] };
 
 // The rules on totals and intervals, of a session and of a stored line.
 fn line_good(near: i64, far: i64, intervals: u32) -> bool {

@@ -78,5 +78,5 @@ fn main() -> Result<(), Refusal> {
 
 /// A state of zeros.
 fn zeros() -> linkbox::Arrays {
-    linkbox::Arrays { set: [0; 4], names: [0; 60], ids: [0; 8], timers: [0; 8], rdi: [0; 8], run: [0; 15], totals: [0; 2] }
+    linkbox::Arrays { set: [0; 4], names: [0; 60], ids: [0; 8], timers: [0; 8], rdi: [0; 8], run: [0; linkbox::RUN], totals: [0; 2] }
 }

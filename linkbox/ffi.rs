@@ -5,17 +5,28 @@
 
 /// How many peers a box has room for.
 pub const PEERS: usize = 8;
+/// How many words the settings are, octets the names, running words a box has, totals of loss.
+pub const SET: usize = 4;
+pub const NAMES: usize = 60;
+pub const RUN: usize = 15;
+pub const TOTALS: usize = 2;
+pub type Set = [u32; SET];
+pub type Names = [u8; NAMES];
+/// A word for each slot of a peer.
+pub type Slots = [u32; PEERS];
+pub type Run = [u32; RUN];
+pub type Totals = [i64; TOTALS];
 
 /// What a box is set to, as it lies at a box's front.
 #[repr(C)]
 #[derive(Clone, Copy, PartialEq, Eq, Debug)]
 pub struct SettingArrays {
     /// Level, MEP ID, period code, peer count.
-    pub set: [u32; 4],
+    pub set: Set,
     /// Own address 6, loss peer's address 6, MEG ID 48, in wire order.
-    pub names: [u8; 60],
+    pub names: Names,
     /// The peers' MEP IDs, 0 in unused slots.
-    pub ids: [u32; PEERS],
+    pub ids: Slots,
 }
 
 /// What a box knows, as linkbox.h lays it out: 248 octets, no padding.
@@ -23,18 +34,18 @@ pub struct SettingArrays {
 #[derive(Clone, Copy, PartialEq, Eq, Debug)]
 pub struct Arrays {
     /// What it is set to, these three: see [`SettingArrays`].
-    pub set: [u32; 4],
-    pub names: [u8; 60],
-    pub ids: [u32; PEERS],
+    pub set: Set,
+    pub names: Names,
+    pub ids: Slots,
     /// Of each peer: ticks until its continuity is lost.
-    pub timers: [u32; PEERS],
+    pub timers: Slots,
     /// Of each peer: 1 while its last CCM had RDI.
-    pub rdi: [u32; PEERS],
+    pub rdi: Slots,
     /// Timers of mismerge, unexpected level, MEP and period, AIS and LCK; ticks to the next CCM; sent and received service frames; whether a reading is
     /// kept; TxFCf, RxFCf, TxFCb and our own count of it; intervals.
-    pub run: [u32; 15],
+    pub run: Run,
     /// Near and far loss.
-    pub totals: [i64; 2],
+    pub totals: Totals,
 }
 
 /// What a new setting is answered: the refusal, or 0, and the box that the settings start, all zero beside refusal 4.
@@ -81,8 +92,8 @@ pub struct Written {
 #[repr(C)]
 #[derive(Clone, Copy, PartialEq, Eq, Debug, Default)]
 pub struct ConditionFlags {
-    pub lost: [u32; PEERS],
-    pub rdi: [u32; PEERS],
+    pub lost: Slots,
+    pub rdi: Slots,
     pub mismerge: u32,
     pub unexpectedmep: u32,
     pub unexpectedperiod: u32,
@@ -178,42 +189,42 @@ const _: () = assert!(size_of::<TlvTold>() == 32);
 
 unsafe extern "C" {
     /// A new setting: the box that these settings start, or refusal 4 and zeros. Writes nothing.
-    pub fn linkbox_new_setting(set: *const [u32; 4], names: *const [u8; 60], ids: *const [u32; PEERS]) -> NewBox;
+    pub fn linkbox_new_setting(set: *const Set, names: *const Names, ids: *const Slots) -> NewBox;
 
     /// A frame from a side (0 the active one, any other number the passive one). Writes timers, rdi, run, totals and out.
     pub fn linkbox_frame(
-        set: *const [u32; 4], names: *const [u8; 60], ids: *const [u32; PEERS], timers: *mut [u32; PEERS], rdi: *mut [u32; PEERS], run: *mut [u32; 15],
-        totals: *mut [i64; 2], side: u32, frame: *const u8, length: usize, receive: Stamp, transmit: Stamp, out: *mut u8, room: usize,
+        set: *const Set, names: *const Names, ids: *const Slots, timers: *mut Slots, rdi: *mut Slots, run: *mut Run,
+        totals: *mut Totals, side: u32, frame: *const u8, length: usize, receive: Stamp, transmit: Stamp, out: *mut u8, room: usize,
     ) -> FrameTold;
 
     /// A tick. Writes timers, run and out.
     pub fn linkbox_tick(
-        set: *const [u32; 4], names: *const [u8; 60], ids: *const [u32; PEERS], timers: *mut [u32; PEERS], rdi: *const [u32; PEERS], run: *mut [u32; 15],
-        totals: *const [i64; 2], out: *mut u8, room: usize,
+        set: *const Set, names: *const Names, ids: *const Slots, timers: *mut Slots, rdi: *const Slots, run: *mut Run,
+        totals: *const Totals, out: *mut u8, room: usize,
     ) -> Written;
 
     /// A clear of the loss session; tells 0, or refusal 2. Writes run and totals.
     pub fn linkbox_clear(
-        set: *const [u32; 4], names: *const [u8; 60], ids: *const [u32; PEERS], timers: *const [u32; PEERS], rdi: *const [u32; PEERS], run: *mut [u32; 15],
-        totals: *mut [i64; 2],
+        set: *const Set, names: *const Names, ids: *const Slots, timers: *const Slots, rdi: *const Slots, run: *mut Run,
+        totals: *mut Totals,
     ) -> u32;
 
     /// Writes an LMM into out.
     pub fn linkbox_send_lmm(
-        set: *const [u32; 4], names: *const [u8; 60], ids: *const [u32; PEERS], timers: *const [u32; PEERS], rdi: *const [u32; PEERS],
-        run: *const [u32; 15], totals: *const [i64; 2], out: *mut u8, room: usize,
+        set: *const Set, names: *const Names, ids: *const Slots, timers: *const Slots, rdi: *const Slots,
+        run: *const Run, totals: *const Totals, out: *mut u8, room: usize,
     ) -> Written;
 
     /// Writes a DMM with the caller's stamp into out.
     pub fn linkbox_send_dmm(
-        set: *const [u32; 4], names: *const [u8; 60], ids: *const [u32; PEERS], timers: *const [u32; PEERS], rdi: *const [u32; PEERS],
-        run: *const [u32; 15], totals: *const [i64; 2], stamp: Stamp, out: *mut u8, room: usize,
+        set: *const Set, names: *const Names, ids: *const Slots, timers: *const Slots, rdi: *const Slots,
+        run: *const Run, totals: *const Totals, stamp: Stamp, out: *mut u8, room: usize,
     ) -> Written;
 
     /// What stands, one by one. Writes nothing.
     pub fn linkbox_conditions(
-        set: *const [u32; 4], names: *const [u8; 60], ids: *const [u32; PEERS], timers: *const [u32; PEERS], rdi: *const [u32; PEERS],
-        run: *const [u32; 15], totals: *const [i64; 2],
+        set: *const Set, names: *const Names, ids: *const Slots, timers: *const Slots, rdi: *const Slots,
+        run: *const Run, totals: *const Totals,
     ) -> ConditionsTold;
 
     /// One more reading of a lent session. Writes the session.
@@ -224,7 +235,7 @@ unsafe extern "C" {
 
     /// Writes settings as a record into `into`.
     pub fn linkbox_write_settings(
-        into: *mut u8, room: usize, set: *const [u32; 4], names: *const [u8; 60], ids: *const [u32; PEERS],
+        into: *mut u8, room: usize, set: *const Set, names: *const Names, ids: *const Slots,
     ) -> Written;
 
     /// The loss line of a stored record, or refusal 7 and zeros. Writes nothing.

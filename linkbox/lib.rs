@@ -25,7 +25,7 @@
 pub mod ffi;
 
 use ffi::SettingArrays;
-pub use ffi::{Arrays, LossLine, LossSession, PEERS, Readings, Stamp};
+pub use ffi::{Arrays, LossLine, LossSession, PEERS, RUN, Readings, Stamp};
 
 /// Why a call was refused; state and buffers are as they were.
 #[derive(Clone, Copy, PartialEq, Eq, Debug)]

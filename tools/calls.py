@@ -1,17 +1,20 @@
 """The text form of a run (README.md beside this): its calls as the octets that `replay` reads, its expected lines as the octets it prints.
 
-It knows the layouts of calls, frames and records, and how lines are written. It knows no rule of a box: what a box answers is written in
-the run, by hand."""
+It knows the layouts of calls, frames and records, and how lines are written; `decode` takes octets apart by the same layouts. It knows no
+rule of a box: what a box answers is written in the run, by hand."""
 import re
 from collections import namedtuple
+from functools import cache
 
 FILL, MOST_BUFFER, MOST_LENGTH = 165, 1600, 2000
 LINK = "01-80-c2-00-00-3"  # and the frame's level: where a MEG's end points listen
 
 Line = namedtuple("Line", "file number text")
-Field = namedtuple("Field", "name read default")
+Value = namedtuple("Value", "size read write")
+Field = namedtuple("Field", "name value default")
 Message = namedtuple("Message", "opcode offset version fixed")
 Body = namedtuple("Body", "octets buffer side frame", defaults=(None, None, b""))
+Kind = namedtuple("Kind", "number body layout tail", defaults=(None,))
 Call = namedtuple("Call", "line name octets answer side frame written")
 Mark = namedtuple("Mark", "line word value")
 
@@ -30,7 +33,7 @@ class Wrong(Exception):
         return placed
 
 
-# ---- values: each reader takes the text of one value and gives its octets ----
+# ---- values: their size in octets, None for any; `read` gives a text's octets, `write` a text that is read as these octets ----
 
 
 # A whole number in the range given, decimal or 0x
@@ -44,38 +47,59 @@ def whole(text, least, most):
     return value
 
 
-# A reader of numbers of so many octets, in the order and with the sign given
+# Numbers of so many octets, in the order and with the sign given
 def number(size, order, signed=False):
     least, most = (-(2 ** (8 * size - 1)), 2 ** (8 * size - 1) - 1) if signed else (0, 2 ** (8 * size) - 1)
-    return lambda text: whole(text, least, most).to_bytes(size, order, signed=signed)
+    return Value(
+        size,
+        lambda text: whole(text, least, most).to_bytes(size, order, signed=signed),
+        lambda octets: str(int.from_bytes(octets, order, signed=signed)),
+    )
 
 
-# A reader of numbers as calls and records hold them
+# Numbers as calls and records hold them
 def little(size, signed=False):
     return number(size, "little", signed)
 
 
-# A reader of numbers as they stand on the wire
+# Numbers as they stand on the wire
 def big(size):
     return number(size, "big")
 
 
-# A reader of up to `slots` numbers with commas between; the slots left over are 0
+# Up to `slots` numbers with commas between; the slots left over are 0
 def listed(slots, size):
+    one = little(size)
+
     def read(text):
         parts = text.split(",") if text != "-" else []
         if len(parts) > slots:
             raise Wrong(f"{len(parts)} numbers where there is room for {slots}")
-        return b"".join(map(little(size), parts)) + bytes(size * (slots - len(parts)))
+        return b"".join(map(one.read, parts)) + bytes(size * (slots - len(parts)))
 
-    return read
+    def write(octets):
+        parts = [one.write(octets[at : at + size]) for at in range(0, len(octets), size)]
+        while parts and parts[-1] == "0":
+            parts.pop()
+        return ",".join(parts) or "-"
+
+    return Value(slots * size, read, write)
+
+
+IDS = listed(8, 2)
 
 
 # The peers of a setting, `9,12`: their count and the eight slots; `3:9,12` gives a count that is not how many are listed
-def peers(text):
+def read_peers(text):
     count, colon, ids = text.rpartition(":")
-    slots = listed(8, 2)(ids)
-    return little(1)(count if colon else str(0 if ids == "-" else len(ids.split(",")))) + slots
+    slots = IDS.read(ids)
+    return little(1).read(count if colon else str(0 if ids == "-" else len(ids.split(",")))) + slots
+
+
+# The same peers as text, with the count only where it is not how many are listed
+def write_peers(octets):
+    ids = IDS.write(octets[1:])
+    return ids if read_peers(ids) == octets else f"{octets[0]}:{ids}"
 
 
 # Octets in hex, any number of them, `-` for none
@@ -87,6 +111,11 @@ def hexed(text):
     return bytes.fromhex(text)
 
 
+# Octets as a line shows them
+def shown(octets):
+    return octets.hex() or "-"
+
+
 # An address, `02-00-00-00-00-07`
 def address(text):
     if not re.fullmatch("[0-9a-fA-F]{2}(-[0-9a-fA-F]{2}){5}", text):
@@ -95,21 +124,33 @@ def address(text):
 
 
 # A MEG ID: text in quotes with zeros up to 48 octets, or 48 octets in hex
-def meg(text):
+def read_meg(text):
     octets = text[1:-1].encode() if text.startswith('"') else hexed(text)
     if len(octets) > 48 or (len(octets) < 48 and not text.startswith('"')):
         raise Wrong(f"a MEG ID has 48 octets, not {len(octets)}")
     return octets.ljust(48, b"\0")
 
 
-# A reader of stamps, `10.400`: whole seconds, a point, whole nanoseconds
-def stamp(read):
-    def both(text):
+# A MEG ID as text. In hex too where a quote, a $ or a bar stands in it: they would end the text, name a `let`, end the answer
+def write_meg(octets):
+    text = octets.rstrip(b"\0").decode("latin-1")
+    return f'"{text}"' if re.fullmatch("[ !#%-{}~]*", text) else octets.hex()
+
+
+# Stamps of two such numbers, `10.400`: whole seconds, a point, whole nanoseconds
+def stamp(numbers):
+    part = numbers(4)
+
+    def read(text):
         if text.count(".") != 1:
             raise Wrong(f"'{text}' is no stamp; 10 s and 400 ns are written 10.400")
-        return b"".join(map(read(4), text.split(".")))
+        return b"".join(map(part.read, text.split(".")))
 
-    return both
+    return Value(8, read, lambda octets: f"{part.write(octets[:4])}.{part.write(octets[4:])}")
+
+
+PEERS, MEG = Value(1 + IDS.size, read_peers, write_peers), Value(48, read_meg, write_meg)
+HEX, ADDRESS = Value(None, hexed, shown), Value(6, address, lambda octets: octets.hex("-"))
 
 
 # ---- words and fields ----
@@ -124,7 +165,7 @@ def words_of(text):
 
 # Each field's octets by its name; a field given twice has the later value
 def fields(words, layout):
-    readers, got = {field.name: field.read for field in layout}, {}
+    readers, got = {field.name: field.value.read for field in layout}, {}
     for word in words:
         name, sign, value = word.partition("=")
         if not sign or name not in readers:
@@ -140,15 +181,19 @@ def fields(words, layout):
     return got
 
 
-# The fields' octets one after another in the layout's order; or the same number of octets given in hex
-def laid_out(words, layout, size):
+# The fields' octets one after another in the layout's order
+def joined(got, layout):
+    return b"".join(got[field.name] for field in layout)
+
+
+# The fields' octets as words give them; or the same number of octets given in hex
+def laid_out(words, layout):
     if words and "=" not in words[0]:
-        octets = hexed("".join(words))
+        octets, size = hexed("".join(words)), sum(field.value.size for field in layout)
         if len(octets) != size:
             raise Wrong(f"{size} octets are needed here, not {len(octets)}")
         return octets
-    got = fields(words, layout)
-    return b"".join(got[field.name] for field in layout)
+    return joined(fields(words, layout), layout)
 
 
 # The words before the first that is no `key=value`, and the rest: a call's own fields, and the frame behind them
@@ -162,8 +207,8 @@ def parted(words):
 # ---- settings, states, sessions, records ----
 
 SETTINGS = [
-    Field("level", little(1), None), Field("mep", little(2), None), Field("own", address, None), Field("period", little(1), None),
-    Field("meg", meg, None), Field("losspeer", address, None), Field("peers", peers, None),
+    Field("level", little(1), None), Field("mep", little(2), None), Field("own", ADDRESS, None), Field("period", little(1), None),
+    Field("meg", MEG, None), Field("losspeer", ADDRESS, None), Field("peers", PEERS, None),
 ]
 SESSION = [
     Field("kept", little(1), b"\0"), Field("reading", listed(4, 4), bytes(16)), Field("near", little(8, True), bytes(8)),
@@ -172,25 +217,11 @@ SESSION = [
 CONDITIONS = ["mismerge", "unexpected-mep", "unexpected-period", "unexpected-level", "ais", "lck"]
 STATE = [
     *SETTINGS, Field("sent", little(4), bytes(4)), Field("received", little(4), bytes(4)), Field("timers", listed(8, 4), None),
-    Field("rdi", listed(8, 1), bytes(8)), *(Field(name, little(4), bytes(4)) for name in CONDITIONS), Field("next", little(4), None), *SESSION,
+    Field("rdi", listed(8, 1), bytes(8)), *(Field(name, little(4), bytes(4)) for name in CONDITIONS),
+    Field("next", little(4), None), *SESSION,
 ]
 TOTALS = SESSION[2:]
-SIZES = {"settings": 81, "state": 194, "session": 37, "totals": 20}
-
-
-# The 81 octets of a setting
-def settings(words):
-    return laid_out(words, SETTINGS, SIZES["settings"])
-
-
-# The 194 octets of a state
-def state(words):
-    return laid_out(words, STATE, SIZES["state"])
-
-
-# The 37 octets of a session; without a word all are zero
-def session(words):
-    return laid_out(words, SESSION, SIZES["session"])
+RECORDS = {"settings-record": (1, SETTINGS), "loss-line": (2, TOTALS)}
 
 
 # A stored record: length of all that follows it, kind, body
@@ -205,7 +236,7 @@ COUNTS = [Field(name, COUNT, bytes(4)) for name in ("txfcf", "rxfcf", "txfcb")]
 STAMPS = [Field(name, STAMP, NO_STAMP) for name in ("txstampf", "rxstampf", "txstampb")] + [Field("reserved", big(8), bytes(8))]
 TRANSACTION = [Field("transaction", COUNT, bytes(4))]
 CCM = [
-    Field("sequence", COUNT, bytes(4)), Field("mep", big(2), None), Field("meg", meg, None), Field("txfcf", COUNT, bytes(4)),
+    Field("sequence", COUNT, bytes(4)), Field("mep", big(2), None), Field("meg", MEG, None), Field("txfcf", COUNT, bytes(4)),
     Field("rxfcb", COUNT, bytes(4)), Field("txfcb", COUNT, bytes(4)), Field("reserved", COUNT, bytes(4)),
 ]
 MESSAGES = {
@@ -219,6 +250,7 @@ MESSAGES = {
     "dmm": Message(47, 32, 1, STAMPS),
     "dmr": Message(46, 32, 1, STAMPS),
 }
+OAM_TYPE, TYPE = b"\x89\x02", big(2)._replace(write=lambda octets: f"0x{octets.hex()}")
 TO_THE_GROUP = ("ccm", "ais", "lck")  # where no `to=` stands
 WITH_PERIOD = ("ccm", "ais", "lck")
 
@@ -228,51 +260,81 @@ def destination(text, level):
     return address(f"{LINK}{level}" if text == "group" else text)
 
 
+# The 18 octets at the front of an OAM frame
+def head(got, opcode, flags):
+    pdu = bytes([32 * got["level"] + got["version"], opcode, flags, got["offset"]])
+    return destination(got["to"], got["level"]) + got["from"] + OAM_TYPE + pdu
+
+
+# What those 18 octets say, opcode and flags too: `head` the other way round
+def head_of(octets):
+    if len(octets) < 18 or octets[12:14] != OAM_TYPE:
+        raise Wrong("this is no OAM frame")
+    (level, version), to = divmod(octets[14], 32), ADDRESS.write(octets[:6])
+    opcode, flags, offset = octets[15:18]
+    to = "group" if to == f"{LINK}{level}" else to
+    return {"to": to, "from": octets[6:12], "level": level, "version": version, "opcode": opcode, "flags": flags, "offset": offset}
+
+
 # A number that a field of the header holds, not yet octets
 def small(most):
-    return lambda text: whole(text, 0, most)
+    return Value(None, lambda text: whole(text, 0, most), str)
+
+
+TO = Value(None, str, str)  # read by `destination`, once the level is known
+OAM = [
+    Field("level", small(7), None), Field("version", small(31), 0), Field("opcode", small(255), None), Field("flags", small(255), 0),
+    Field("offset", small(255), None), Field("rest", HEX, None), Field("to", TO, None), Field("from", ADDRESS, None),
+]
+SERVICE = [Field("to", ADDRESS, None), Field("from", ADDRESS, None), Field("type", TYPE, b"\x08\0"), Field("data", HEX, b"")]
+LENGTH = Field("length", small(1979), 0)
 
 
 # The fields that stand around a message's fixed part. `extra` are octets between it and the TLVs, `cut` keeps so many octets of the frame
-def around(name, message):
+@cache
+def around(name):
+    message = MESSAGES[name]
     header = [
         Field("level", small(7), None), Field("version", small(31), message.version), Field("flags", small(255), -1),
-        Field("offset", small(255), message.offset), Field("extra", hexed, b""), Field("tlvs", hexed, b"\0"), Field("cut", small(1979), 1979),
-        Field("to", str, "group" if name in TO_THE_GROUP else None), Field("from", address, None),
+        Field("offset", small(255), message.offset), Field("extra", HEX, b""), Field("tlvs", HEX, b"\0"), Field("cut", small(1979), 1979),
+        Field("to", TO, "group" if name in TO_THE_GROUP else None), Field("from", ADDRESS, None),
     ]
     period = [Field("period", small(7), None)] if name in WITH_PERIOD else []
     rdi = [Field("rdi", small(1), 0)] if name == "ccm" else []
     return header + period + rdi
 
 
+# The flags where none are given: those that the message's own fields say
+def usual_flags(got):
+    return 128 * got.get("rdi", 0) + got.get("period", 0)
+
+
+# What stands between fixed part and TLVs where no `extra` is given: zeros up to an offset above the usual
+def usual_extra(message, offset):
+    return bytes(max(0, offset - message.offset))
+
+
 # A message's frame from its fields. An offset above the usual puts `extra`, or zeros, before the TLVs; one below changes only its octet
 def message_frame(name, words):
     message = MESSAGES[name]
-    got = fields(words, around(name, message) + message.fixed)
-    flags = got["flags"] if got["flags"] >= 0 else 128 * got.get("rdi", 0) + got.get("period", 0)
-    extra = got["extra"] or bytes(max(0, got["offset"] - message.offset))
-    header = bytes([32 * got["level"] + got["version"], message.opcode, flags, got["offset"]])
-    fixed = b"".join(got[field.name] for field in message.fixed)
-    pdu = header + fixed + extra + got["tlvs"]
-    return (destination(got["to"], got["level"]) + got["from"] + b"\x89\x02" + pdu)[: got["cut"]]
+    got = fields(words, around(name) + message.fixed)
+    flags = got["flags"] if got["flags"] >= 0 else usual_flags(got)
+    extra = got["extra"] or usual_extra(message, got["offset"])
+    return (head(got, message.opcode, flags) + joined(got, message.fixed) + extra + got["tlvs"])[: got["cut"]]
 
 
 # An OAM frame of any opcode: what follows the offset octet is given as it stands
 def oam_frame(words):
-    header = [Field("level", small(7), None), Field("version", small(31), 0), Field("opcode", small(255), None), Field("flags", small(255), 0)]
-    rest = [Field("offset", small(255), None), Field("rest", hexed, None), Field("to", str, None), Field("from", address, None)]
-    got = fields(words, header + rest)
-    pdu = bytes([32 * got["level"] + got["version"], got["opcode"], got["flags"], got["offset"]]) + got["rest"]
-    return destination(got["to"], got["level"]) + got["from"] + b"\x89\x02" + pdu
+    got = fields(words, OAM)
+    return head(got, got["opcode"], got["flags"]) + got["rest"]
 
 
 # A service frame: any EtherType but 89-02. `length` makes it so long with zeros
 def service_frame(words):
-    layout = [Field("to", address, None), Field("from", address, None), Field("type", big(2), b"\x08\0"), Field("data", hexed, b"")]
-    got = fields(words, layout + [Field("length", small(1979), 0)])
-    if got["type"] == b"\x89\x02":
+    got = fields(words, [*SERVICE, LENGTH])
+    if got["type"] == OAM_TYPE:
         raise Wrong("EtherType 89-02 is OAM and no service frame")
-    return b"".join(got[field.name] for field in layout).ljust(got["length"], b"\0")
+    return joined(got, SERVICE).ljust(got["length"], b"\0")
 
 
 # The octets that words give: a frame or record by its name and fields, or hex, `-` for none
@@ -282,22 +344,33 @@ def octets_of(words):
     name, rest = words[0], words[1:]
     if name in MESSAGES:
         return message_frame(name, rest)
-    if name in BUILDERS:
-        return BUILDERS[name](rest)
+    if name in RECORDS:
+        kind, layout = RECORDS[name]
+        return record(kind, laid_out(rest, layout))
+    if name in ("oam", "service"):
+        return oam_frame(rest) if name == "oam" else service_frame(rest)
     return hexed("".join(words))
 
 
-BUILDERS = {
-    "oam": oam_frame,
-    "service": service_frame,
-    "settings-record": lambda words: record(1, settings(words)),
-    "loss-line": lambda words: record(2, laid_out(words, TOTALS, SIZES["totals"])),
-}
+# ---- the body of each call: its fields in their order, those without a name told by their place alone, then its tail ----
+
+SIDES = ("active", "passive")
 
 
-# ---- the body of each call ----
+# The side that a frame comes from
+def side(text):
+    if text not in SIDES:
+        raise Wrong("a frame comes from the active or the passive side")
+    return bytes([SIDES.index(text)])
 
-BUFFER, CALL_STAMP = Field("buffer", lambda text: whole(text, 0, MOST_BUFFER), 0), stamp(little)
+
+SIDE = Value(1, side, lambda octets: dict(enumerate(SIDES)).get(octets[0], octets.hex()))
+ROOM = Value(2, lambda text: whole(text, 0, MOST_BUFFER).to_bytes(2, "little"), little(2).write)
+BUFFER, CALL_STAMP = Field("buffer", ROOM, bytes(2)), stamp(little)
+FRAME_CALL = [Field("", SIDE, None), BUFFER, Field("receive", CALL_STAMP, NO_STAMP), Field("send", CALL_STAMP, NO_STAMP)]
+DMM_CALL = [BUFFER, Field("stamp", CALL_STAMP, None)]
+TLV_CALL = [Field("type", little(1), None)]
+READINGS = [Field("", little(4), None)] * 4
 
 
 # A call without a body
@@ -307,73 +380,78 @@ def empty(words):
     return Body(b"")
 
 
-# The two octets that say how long a part of the buffer is handed over
-def buffer_octets(got):
-    return got["buffer"].to_bytes(2, "little")
+# How long a part of the buffer is handed over
+def buffer_of(got):
+    return int.from_bytes(got["buffer"], "little")
 
 
 # 258: side, buffer, both stamps, the frame
 def frame_body(words):
-    if not words or words[0] not in ("active", "passive"):
-        raise Wrong("a frame comes from the active or the passive side")
-    own, rest = parted(words[1:])
-    got = fields(own, [BUFFER, Field("receive", CALL_STAMP, NO_STAMP), Field("send", CALL_STAMP, NO_STAMP)])
-    frame, side = octets_of(rest), ("active", "passive").index(words[0])
-    return Body(bytes([side]) + buffer_octets(got) + got["receive"] + got["send"] + frame, got["buffer"], words[0], frame)
+    first, (own, rest) = side(words[0] if words else ""), parted(words[1:])
+    got = {"": first, **fields(own, FRAME_CALL[1:])}
+    frame = octets_of(rest)
+    return Body(joined(got, FRAME_CALL) + frame, buffer_of(got), words[0], frame)
 
 
-# 259 and 261: the buffer alone
-def buffer_body(words):
-    got = fields(words, [BUFFER])
-    return Body(buffer_octets(got), got["buffer"])
+# 259, 261 and 262: the buffer, and 262's stamp
+def buffer_body(layout):
+    def body(words):
+        got = fields(words, layout)
+        return Body(joined(got, layout), buffer_of(got))
+
+    return body
 
 
-# 262: buffer and stamp
-def dmm_body(words):
-    got = fields(words, [BUFFER, Field("stamp", CALL_STAMP, None)])
-    return Body(buffer_octets(got) + got["stamp"], got["buffer"])
+# 257, 263 and 266: values without a buffer
+def put_body(layout):
+    return lambda words: Body(laid_out(words, layout))
 
 
 # 265: the type asked for, and the frame
 def tlv_body(words):
     own, rest = parted(words)
-    return Body(fields(own, [Field("type", little(1), None)])["type"] + octets_of(rest))
+    return Body(joined(fields(own, TLV_CALL), TLV_CALL) + octets_of(rest))
 
 
 # 267: four readings
 def measure_body(words):
     if len(words) != 4:
         raise Wrong("four readings are needed: TxFCf, RxFCf, TxFCb and ours")
-    return Body(b"".join(map(little(4), words)))
+    return Body(b"".join(field.value.read(word) for field, word in zip(READINGS, words)))
+
+
+# 268 and 270: any octets
+def octets_body(words):
+    return Body(octets_of(words))
 
 
 # 269 and 271: the buffer, then the values to be written
-def write_body(layout, size):
+def write_body(layout):
     def body(words):
         own = [word for word in words if word.startswith("buffer=")]
         got = fields(own, [BUFFER])
-        return Body(buffer_octets(got) + laid_out([word for word in words if word not in own], layout, size), got["buffer"])
+        return Body(got["buffer"] + laid_out([word for word in words if word not in own], layout), buffer_of(got))
 
     return body
 
 
 CALLS = {
-    "setting": (257, lambda words: Body(settings(words))),
-    "frame": (258, frame_body),
-    "tick": (259, buffer_body),
-    "clear": (260, empty),
-    "lmm": (261, buffer_body),
-    "dmm": (262, dmm_body),
-    "put-state": (263, lambda words: Body(state(words))),
-    "show-state": (264, empty),
-    "tlv": (265, tlv_body),
-    "put-session": (266, lambda words: Body(session(words))),
-    "measure": (267, measure_body),
-    "read-settings": (268, lambda words: Body(octets_of(words))),
-    "write-settings": (269, write_body(SETTINGS, SIZES["settings"])),
-    "read-line": (270, lambda words: Body(octets_of(words))),
-    "write-line": (271, write_body(TOTALS, SIZES["totals"])),
-    "conditions": (272, empty),
+    "setting": Kind(257, put_body(SETTINGS), SETTINGS),
+    "frame": Kind(258, frame_body, FRAME_CALL, "frame"),
+    "tick": Kind(259, buffer_body([BUFFER]), [BUFFER]),
+    "clear": Kind(260, empty, []),
+    "lmm": Kind(261, buffer_body([BUFFER]), [BUFFER]),
+    "dmm": Kind(262, buffer_body(DMM_CALL), DMM_CALL),
+    "put-state": Kind(263, put_body(STATE), STATE),
+    "show-state": Kind(264, empty, []),
+    "tlv": Kind(265, tlv_body, TLV_CALL, "frame"),
+    "put-session": Kind(266, put_body(SESSION), SESSION),
+    "measure": Kind(267, measure_body, READINGS),
+    "read-settings": Kind(268, octets_body, [], "record"),
+    "write-settings": Kind(269, write_body(SETTINGS), [BUFFER, *SETTINGS]),
+    "read-line": Kind(270, octets_body, [], "record"),
+    "write-line": Kind(271, write_body(TOTALS), [BUFFER, *TOTALS]),
+    "conditions": Kind(272, empty, []),
 }
 
 # ---- expected lines ----
@@ -400,19 +478,14 @@ ANSWERS = {
     "write-line": f"sent {N}|{REFUSED}",
     "conditions": f"conditions( {PEER}){{1,8}}{OTHERS}|{REFUSED}",
 }
-SHOWN = {"state": state, "session": session, "settings": settings}
-
-
-# Octets as a line shows them
-def shown(octets):
-    return octets.hex() or "-"
+SHOWN = {"state": STATE, "session": SESSION, "settings": SETTINGS}
 
 
 # The answer with a state, session or setting given by its fields written as the hex that a line shows
 def answer_of(name, words):
     for at, word in enumerate(words):
         if word in SHOWN:
-            words = words[: at + 1] + [shown(SHOWN[word](words[at + 1 :]))]
+            words = words[: at + 1] + [shown(laid_out(words[at + 1 :], SHOWN[word]))]
             break
     answer = " ".join(words)
     if not re.fullmatch(ANSWERS[name], answer):
@@ -420,11 +493,16 @@ def answer_of(name, words):
     return answer
 
 
+# How many octets an answer says were written
+def told_by(answer):
+    told = re.fullmatch("(?:sent|replied) (.+)", answer)
+    return int(told[1]) if told else 0
+
+
 # The octets that a message or record has written, held to the length that the answer gives
 def written_by(answer, words):
     written = octets_of(words) if words else b""
-    told = re.fullmatch("(?:sent|replied) (.+)", answer)
-    if len(written) != (int(told[1]) if told else 0):
+    if len(written) != told_by(answer):
         raise Wrong(f"'{answer}' does not go with the {len(written)} octets behind the bar")
     return written
 
@@ -492,9 +570,9 @@ def call(line, after):
         raise Wrong(f"no call is named '{name}'; there are {', '.join(CALLS)}")
     if after is None or not after.text.startswith("> "):
         raise Wrong(f"the call {name} has no expected line behind it")
-    number, body_of = CALLS[name]
-    body = body_of(words)
-    octets = record(number, body.octets)
+    kind = CALLS[name]
+    body = kind.body(words)
+    octets = record(kind.number, body.octets)
     if len(octets) - 2 > MOST_LENGTH:
         raise Wrong(f"a call has at most {MOST_LENGTH} octets behind its length")
     try:

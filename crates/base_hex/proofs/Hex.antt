@@ -12,7 +12,7 @@ use mathlib.Core.Logic.{⊎-elim}
 use Rattle.base_laws.specs.Lists.{laid}
 use Rattle.base_laws.proofs.Lists.{laid-none, laid-one, laid-more, laid-next}
 use Rattle.base_laws.proofs.Tests.{known}
-use Rattle.base_octets.specs.Numbers.{Octets}
+use Rattle.base_octets.specs.Octets.{Octets}
 use Rattle.base_hex.specs.Hex.{hexDigit, hexPair, hexPairs, hexText, digitValue, pairsValue, Hexes}
 
 -- ── how long ──

@@ -6,7 +6,7 @@ use mathlib.Core.Bool.{cond}
 use mathlib.Core.List.{List, [], _∷_, _++_}
 use lib.Dec.{ltb}
 use lib.ListN.{length}
-use Rattle.base_octets.specs.Numbers.{Octets}
+use Rattle.base_octets.specs.Octets.{Octets}
 
 -- the digit of a number below 16: '0' is 48, and 'a' is 97 and stands for 10
 unfoldable pub hexDigit : ℕ → ℕ

@@ -38,7 +38,8 @@ fn write_pairs(into: &mut [u8], at: usize, octets: &[u8])
 
 // Puts octets in hex at a place, `-` for no octets, and answers the place behind them; where they do not fit, nothing is touched and `at` comes back.
 pub fn write_hex(into: &mut [u8], at: usize, octets: &[u8]) -> usize
-    ensures { λ r. ⌜ (now (into .exit) ≡ putAt at (hexText (now (octets .entry))) (now (into .entry))) × (r ≡ behind at (hexText (now (octets .entry))) (now (into .entry))) ⌝ }
+    ensures { λ r. ⌜ (now (into .exit) ≡ putAt at (hexText (now (octets .entry))) (now (into .entry)))
+        × (r ≡ behind at (hexText (now (octets .entry))) (now (into .entry))) ⌝ }
 {
     if octets.len() == 0 {
         return write_word(into, at, b"-");

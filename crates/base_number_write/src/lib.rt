@@ -40,7 +40,8 @@ fn write_digits(into: &mut [u8], at: usize, count: usize, size: u64)
 // Puts the digits of a size at a place, and answers the place behind them; where they do not fit, nothing is touched.
 fn put_size(into: &mut [u8], at: usize, size: u64) -> usize
     requires { ⌜ size < 10 ^ 19 ⌝ }
-    ensures { λ r. ⌜ (now (into .exit) ≡ putAt at (digitsOf size) (now (into .entry))) × (r ≡ behind at (digitsOf size) (now (into .entry))) ⌝ }
+    ensures { λ r. ⌜ (now (into .exit) ≡ putAt at (digitsOf size) (now (into .entry)))
+        × (r ≡ behind at (digitsOf size) (now (into .entry))) ⌝ }
 {
     let count = count_digits(size);
     let all = into.len();
@@ -57,7 +58,8 @@ fn put_size(into: &mut [u8], at: usize, size: u64) -> usize
 // The same with the sign in front. The digits are put first, since only they tell whether all fits; then the sign goes before them.
 fn put_below_zero(into: &mut [u8], at: usize, size: u64) -> usize
     requires { ⌜ size < 10 ^ 19 ⌝ }
-    ensures { λ r. ⌜ (now (into .exit) ≡ putAt at (45 ∷ digitsOf size) (now (into .entry))) × (r ≡ behind at (45 ∷ digitsOf size) (now (into .entry))) ⌝ }
+    ensures { λ r. ⌜ (now (into .exit) ≡ putAt at (45 ∷ digitsOf size) (now (into .entry)))
+        × (r ≡ behind at (45 ∷ digitsOf size) (now (into .entry))) ⌝ }
 {
     if into.len() <= at {
         return at;
@@ -73,7 +75,8 @@ fn put_below_zero(into: &mut [u8], at: usize, size: u64) -> usize
 // Writes the text of a number at a place, and answers the place behind it; where it does not fit, nothing is touched and `at` comes back.
 // The size of a number below 0 is one more than -1 less the number, which no cast loses, -2^63 included.
 pub fn write_decimal(into: &mut [u8], at: usize, value: i64) -> usize
-    ensures { λ r. ⌜ (now (into .exit) ≡ putAt at (decimal value) (now (into .entry))) × (r ≡ behind at (decimal value) (now (into .entry))) ⌝ }
+    ensures { λ r. ⌜ (now (into .exit) ≡ putAt at (decimal value) (now (into .entry)))
+        × (r ≡ behind at (decimal value) (now (into .entry))) ⌝ }
 {
     if value < 0 {
         put_below_zero(into, at, ((-1 - value) as u64) + 1)

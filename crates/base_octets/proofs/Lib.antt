@@ -1,4 +1,4 @@
-pub mod Laws
+pub mod Octets
 pub mod Written
 pub mod Turns
 pub mod One

@@ -8,7 +8,7 @@ use lib.Dec.{ltb}
 use borrow.Author.Tests.{ltb-true}
 use Rattle.base_laws.specs.Lists.{every}
 use Rattle.base_laws.proofs.Tests.{split}
-use Rattle.base_octets.specs.Numbers.{Octets}
+use Rattle.base_octets.specs.Octets.{Octets}
 
 pub octets-of : (xs : List ℕ) → every (λ x. ltb x 256) xs ≡ true → Octets xs
 unfolding every

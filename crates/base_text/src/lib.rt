@@ -2,11 +2,12 @@
 // Numbers are in `base_number_write`, octets in `base_hex`.
 ghost use mathlib.Core.Path.{_≡_};
 ghost use Rattle.base_number_text.specs.Put.{putAt, behind};
-use base_octets::parts::copy_octets;
+use base_octets::copy_octets;
 
 // Puts a word at a place, and answers the place behind it; where it does not fit, nothing is touched and `at` comes back.
 pub fn write_word(into: &mut [u8], at: usize, word: &[u8]) -> usize
-    ensures { λ r. ⌜ (now (into .exit) ≡ putAt at (now (word .entry)) (now (into .entry))) × (r ≡ behind at (now (word .entry)) (now (into .entry))) ⌝ }
+    ensures { λ r. ⌜ (now (into .exit) ≡ putAt at (now (word .entry)) (now (into .entry)))
+        × (r ≡ behind at (now (word .entry)) (now (into .entry))) ⌝ }
 {
     let all = into.len();
     if all < at {

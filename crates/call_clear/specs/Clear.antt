@@ -2,8 +2,10 @@
 -- Definitions and the statement only.
 use Prim.Native.Nat.{ℕ}
 use mathlib.Core.Path.{_≡_}
+use mathlib.Core.List.{[]}
 use mathlib.Core.Bool.{cond}
 use mathlib.Core.Logic.{_↔_}
+use Rattle.base_laws.specs.Ended.{Ended, ended}
 use Rattle.loss_session.specs.Session.{clearedSession}
 use Rattle.state_view.specs.State.{State}
 use Rattle.state_view.specs.WellFormed.{WellFormed, wellFormed}
@@ -14,18 +16,9 @@ use Rattle.call_clear.specs.declared.ClearTold.{ClearTold}
 
 -- ── the whole outcome ──
 
--- what is answered, and the state after
-pub record ClearEnd : Type 0 where
-  pub answer : ClearAnswer
-  pub state : State
-
--- the two by name
-abbrev pub ended : ClearAnswer → State → ClearEnd
-ended answer state = record { answer = answer; state = state }
-
 -- refusal 2, or the cleared session in its place
-unfoldable pub clearOf : State → ClearEnd
-clearOf s = cond (wellFormed s) (ended Cleared (withSession clearedSession s)) (ended NotWellFormed s)
+unfoldable pub clearOf : State → Ended State ClearAnswer
+clearOf s = cond (wellFormed s) (ended Cleared (withSession clearedSession s) []) (ended NotWellFormed s [])
 
 -- ── in the paper's numbers ──
 

@@ -1,11 +1,17 @@
 // A clear: the loss session starts anew, and nothing else of the state changes.
+ghost use mathlib.Core.List.{[]};
 ghost use mathlib.Core.Path.{_≡_};
+ghost use Rattle.base_laws.specs.Ended.{ended};
 ghost use Rattle.state_view.specs.State.{before, afterSession};
 ghost use Rattle.state_places.specs.Stored.{Whole};
-ghost use Rattle.call_clear.specs.Clear.{ended, clearOf, told, numbersOf};
+ghost use Rattle.call_clear.specs.Clear.{clearOf, told, numbersOf};
 use loss_session::cleared;
 use state_places::put_session;
-use state_settings::PEERS;
+use state_settings::Names;
+use state_settings::Set;
+use state_settings::Slots;
+use state_view::Run;
+use state_view::Totals;
 use state_well_formed::is_well_formed;
 
 // What a clear is answered.
@@ -23,15 +29,15 @@ pub struct ClearTold {
 
 // Forgets the kept reading, the intervals and both totals.
 pub fn clear(
-    set: &[u32; 4],
-    names: &[u8; 60],
-    ids: &[u32; PEERS],
-    timers: &[u32; PEERS],
-    rdi: &[u32; PEERS],
-    run: &mut [u32; 15],
-    totals: &mut [i64; 2],
+    set: &Set,
+    names: &Names,
+    ids: &Slots,
+    timers: &Slots,
+    rdi: &Slots,
+    run: &mut Run,
+    totals: &mut Totals,
 ) -> ClearAnswer
-    ensures { λ r. ⌜ (ended r (afterSession set names ids timers rdi run totals) ≡ clearOf (before set names ids timers rdi run totals))
+    ensures { λ r. ⌜ (ended r (afterSession set names ids timers rdi run totals) [] ≡ clearOf (before set names ids timers rdi run totals))
         × (told r ≡ numbersOf (before set names ids timers rdi run totals)) ⌝ }
     ensures { λ _. ⌜ Whole (now (run .exit)) (now (totals .exit)) ⌝ }
 {

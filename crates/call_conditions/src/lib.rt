@@ -6,11 +6,16 @@ ghost use Rattle.state_settings.specs.Settings.{slots};
 ghost use Rattle.state_view.specs.State.{before};
 ghost use Rattle.call_conditions.specs.Conditions.{table, lostAt, shownOf, conditionsOf, noConditions};
 use state_settings::COUNT;
+use state_settings::Names;
 use state_settings::PEERS;
+use state_settings::Set;
+use state_settings::Slots;
 use state_standing::flag_of;
 use state_view::AIS;
 use state_view::LCK;
 use state_view::MISMERGE;
+use state_view::Run;
+use state_view::Totals;
 use state_view::UNEXPECTED_LEVEL;
 use state_view::UNEXPECTED_MEP;
 use state_view::UNEXPECTED_PERIOD;
@@ -19,8 +24,8 @@ use state_well_formed::is_well_formed;
 // Each condition, 1 while it stands and else 0; and the RDI that each peer last sent.
 #[repr(C)]
 pub struct ConditionFlags {
-    pub lost: [u32; PEERS],
-    pub rdi: [u32; PEERS],
+    pub lost: Slots,
+    pub rdi: Slots,
     pub mismerge: u32,
     pub unexpectedmep: u32,
     pub unexpectedperiod: u32,
@@ -37,7 +42,7 @@ pub struct ConditionsTold {
 }
 
 // Marks each slot that is used and whose timer is 0.
-fn mark_lost(lost: &mut [u32; PEERS], timers: &[u32; PEERS], count: u32)
+fn mark_lost(lost: &mut Slots, timers: &Slots, count: u32)
     ensures { λ _. ⌜ now (lost .exit) ≡ table (lostAt count (now (timers .entry))) slots ⌝ }
 {
     // a view of the array tells its length, and costs nothing
@@ -52,13 +57,13 @@ fn mark_lost(lost: &mut [u32; PEERS], timers: &[u32; PEERS], count: u32)
 
 // The conditions of any state.
 fn shown(
-    set: &[u32; 4],
-    names: &[u8; 60],
-    ids: &[u32; PEERS],
-    timers: &[u32; PEERS],
-    rdi: &[u32; PEERS],
-    run: &[u32; 15],
-    totals: &[i64; 2],
+    set: &Set,
+    names: &Names,
+    ids: &Slots,
+    timers: &Slots,
+    rdi: &Slots,
+    run: &Run,
+    totals: &Totals,
 ) -> ConditionFlags
     ensures { λ r. ⌜ r ≡ shownOf (before set names ids timers rdi run totals) ⌝ }
 {
@@ -95,13 +100,13 @@ fn none() -> ConditionFlags
 
 // Tells each condition of a well-formed state; refusal 2 of any other.
 pub fn conditions(
-    set: &[u32; 4],
-    names: &[u8; 60],
-    ids: &[u32; PEERS],
-    timers: &[u32; PEERS],
-    rdi: &[u32; PEERS],
-    run: &[u32; 15],
-    totals: &[i64; 2],
+    set: &Set,
+    names: &Names,
+    ids: &Slots,
+    timers: &Slots,
+    rdi: &Slots,
+    run: &Run,
+    totals: &Totals,
 ) -> ConditionsTold
     ensures { λ r. ⌜ r ≡ conditionsOf (before set names ids timers rdi run totals) ⌝ }
 {

@@ -1,5 +1,5 @@
--- The paper's numbers for each answer of a tick, of send LMM and of send DMM: the refusal, or 0, and the length of what was written. The paper,
--- "A tick": a CCM has 89 octets, an LMM 31, a DMM 51. Definitions only.
+-- The paper's numbers for each answer of a tick, of send LMM and of send DMM: the refusal, or 0, and the length of what was written. Definitions
+-- only.
 use Prim.Native.Nat.{ℕ}
 use Rattle.message_parts.specs.declared.parts.WrittenTold.{WrittenTold}
 use Rattle.message_parts.specs.Buffer.{numbers}
@@ -10,32 +10,21 @@ use Rattle.call_send_answer.specs.declared.LmmAnswer.the-variants as lmm
 use Rattle.call_send_answer.specs.declared.DmmAnswer.{DmmAnswer}
 use Rattle.call_send_answer.specs.declared.DmmAnswer.the-variants as dmm
 
--- ── how long they are ──
-
-abbrev pub ccmLength : ℕ
-ccmLength = 89
-
-abbrev pub lmmLength : ℕ
-lmmLength = 31
-
-abbrev pub dmmLength : ℕ
-dmmLength = 51
-
 -- ── the number and the length of each answer ──
 
 unfoldable pub tickTold : TickAnswer → WrittenTold
 tickTold tick.NotWellFormed = numbers 2 0
 tickTold tick.NoRoom = numbers 3 0
 tickTold tick.Quiet = numbers 0 0
-tickTold tick.Sent = numbers 0 ccmLength
+tickTold (tick.Sent n) = numbers 0 n
 
 unfoldable pub lmmTold : LmmAnswer → WrittenTold
 lmmTold lmm.NotWellFormed = numbers 2 0
 lmmTold lmm.NoRoom = numbers 3 0
-lmmTold lmm.Sent = numbers 0 lmmLength
+lmmTold (lmm.Sent n) = numbers 0 n
 
 unfoldable pub dmmTold : DmmAnswer → WrittenTold
 dmmTold dmm.NotWellFormed = numbers 2 0
 dmmTold dmm.BadStamp = numbers 6 0
 dmmTold dmm.NoRoom = numbers 3 0
-dmmTold dmm.Sent = numbers 0 dmmLength
+dmmTold (dmm.Sent n) = numbers 0 n

@@ -3,13 +3,6 @@ ghost use mathlib.Core.Path.{_≡_};
 ghost use Rattle.call_send_answer.specs.Told.{tickTold, lmmTold, dmmTold};
 use message_parts::parts::WrittenTold;
 
-// How long a CCM is.
-const CCM_LENGTH: usize = 89;
-// How long an LMM is.
-const LMM_LENGTH: usize = 31;
-// How long a DMM is.
-const DMM_LENGTH: usize = 51;
-
 // What a tick is answered.
 pub enum TickAnswer {
     // Refusal 2: the state is not well formed.
@@ -18,8 +11,8 @@ pub enum TickAnswer {
     NoRoom,
     // The tick has passed, and nothing is to be sent.
     Quiet,
-    // It has passed, and a CCM stands in the buffer's first 89 octets.
-    Sent,
+    // It has passed, and a CCM stands in so many of the buffer's first octets.
+    Sent(usize),
 }
 
 // What is answered where an LMM is to be sent.
@@ -28,8 +21,8 @@ pub enum LmmAnswer {
     NotWellFormed,
     // Refusal 3: the buffer is shorter than the message.
     NoRoom,
-    // The message stands in the buffer's first 31 octets.
-    Sent,
+    // The message stands in so many of the buffer's first octets.
+    Sent(usize),
 }
 
 // What is answered where a DMM is to be sent.
@@ -40,8 +33,8 @@ pub enum DmmAnswer {
     BadStamp,
     // Refusal 3: the buffer is shorter than the message.
     NoRoom,
-    // The message stands in the buffer's first 51 octets.
-    Sent,
+    // The message stands in so many of the buffer's first octets.
+    Sent(usize),
 }
 
 // An answer to a tick in the paper's numbers.
@@ -61,9 +54,9 @@ pub fn tell_tick(answer: TickAnswer) -> WrittenTold
             refusal: 0,
             length: 0,
         },
-        TickAnswer::Sent => WrittenTold {
+        TickAnswer::Sent(n) => WrittenTold {
             refusal: 0,
-            length: CCM_LENGTH,
+            length: n,
         },
     }
 }
@@ -81,9 +74,9 @@ pub fn tell_lmm(answer: LmmAnswer) -> WrittenTold
             refusal: 3,
             length: 0,
         },
-        LmmAnswer::Sent => WrittenTold {
+        LmmAnswer::Sent(n) => WrittenTold {
             refusal: 0,
-            length: LMM_LENGTH,
+            length: n,
         },
     }
 }
@@ -105,9 +98,9 @@ pub fn tell_dmm(answer: DmmAnswer) -> WrittenTold
             refusal: 3,
             length: 0,
         },
-        DmmAnswer::Sent => WrittenTold {
+        DmmAnswer::Sent(n) => WrittenTold {
             refusal: 0,
-            length: DMM_LENGTH,
+            length: n,
         },
     }
 }

@@ -1,12 +1,14 @@
 -- How a call for a DMM ends, and the statement of specs/Dmm.antt. Assumes nothing.
 use Prim.Native.Nat.{ℕ, _≤_, _<_}
-use mathlib.Core.Path.{_≡_, refl, sym, ap, _∙_}
+use mathlib.Core.Path.{_≡_, refl, sym, ap, ap₂, _∙_}
 use mathlib.Core.Bool.{Bool, true, false, not, false≢true}
 use mathlib.Core.List.{List, [], _∷_}
 use mathlib.Core.Logic.{⊎-elim}
 use lib.Dec.{ltb, eqb}
 use lib.ListN.{length}
 use borrow.Author.Tests.{ltb-true, ltb-false, lt-ltb, le-ltb, leb-true, leb-false, le-leb, lt-leb, eqb-false, not-true, not-false}
+use Rattle.base_laws.specs.Ended.{Ended, ended}
+use Rattle.base_laws.proofs.Ended.{answer-is, state-is, buffer-is}
 use Rattle.base_laws.specs.Tests.{choose}
 use Rattle.base_laws.specs.Lists.{laid}
 use Rattle.base_laws.proofs.Tests.{known, choose-map}
@@ -19,9 +21,10 @@ use Rattle.message_parts.specs.declared.parts.Written.{Written}
 use Rattle.message_parts.specs.declared.parts.Written.the-variants as written
 use Rattle.message_parts.specs.Buffer.{writtenOf, bufferOf}
 use Rattle.message_requests.proofs.Laid.{dmm-long}
+use Rattle.message_requests.specs.Requests.{dmmLength}
 use Rattle.call_send_answer.specs.declared.DmmAnswer.{DmmAnswer}
 use Rattle.call_send_answer.specs.declared.DmmAnswer.the-variants.{NotWellFormed, BadStamp, NoRoom, Sent}
-use Rattle.call_send_dmm.specs.Dmm.{dmmOf, DmmEnd, dmmEnded, sendDmm, dmmNumbers, SendsDmm}
+use Rattle.call_send_dmm.specs.Dmm.{dmmOf, sendDmm, dmmNumbers, SendsDmm}
 use Rattle.call_send_answer.specs.Told.{dmmTold}
 use Rattle.message_parts.proofs.Written.{none, some}
 
@@ -30,10 +33,10 @@ numbered : DmmAnswer → ℕ
 numbered NotWellFormed = 2
 numbered BadStamp = 6
 numbered NoRoom = 3
-numbered Sent = 0
+numbered (Sent n) = 0
 
 -- of three rules the second decides, or the third, or none
-module _ {b d : Bool} (f : Bool) (x y z u : DmmEnd) (first : b ≡ true) where
+module _ {b d : Bool} (f : Bool) (x y z u : Ended State DmmAnswer) (first : b ≡ true) where
   second : d ≡ false → choose ((not b, x) ∷ (not d, y) ∷ (f, z) ∷ []) u ≡ y
   unfolding choose
   second h = rw (first, h)
@@ -47,44 +50,44 @@ module _ {b d : Bool} (f : Bool) (x y z u : DmmEnd) (first : b ≡ true) where
   none-of h k = rw (first, h, k)
 
 module _ (s : State) (stamp : Stamp) (buffer : List ℕ) where
-  abbrev o : DmmEnd
+  abbrev o : Ended State DmmAnswer
   o = sendDmm s stamp buffer
 
   agree : dmmTold (o .answer) ≡ dmmNumbers s stamp buffer
   unfolding sendDmm dmmTold dmmNumbers
-  agree = choose-map (λ (t : DmmEnd). dmmTold (t .answer)) _ _
+  agree = choose-map (λ (t : Ended State DmmAnswer). dmmTold (t .answer)) _ _
 
   -- ── one law for each way ──
 
   abbrev few : Bool
   few = ltb (length buffer) 51
 
-  abbrev bad-end : DmmEnd
-  bad-end = dmmEnded NotWellFormed buffer
+  abbrev bad-end : Ended State DmmAnswer
+  bad-end = ended NotWellFormed s buffer
 
-  abbrev stamp-end : DmmEnd
-  stamp-end = dmmEnded BadStamp buffer
+  abbrev stamp-end : Ended State DmmAnswer
+  stamp-end = ended BadStamp s buffer
 
-  abbrev short-end : DmmEnd
-  short-end = dmmEnded NoRoom buffer
+  abbrev short-end : Ended State DmmAnswer
+  short-end = ended NoRoom s buffer
 
-  abbrev sent-end : DmmEnd
-  sent-end = dmmEnded Sent (laid 0 (dmmOf s stamp) buffer)
+  abbrev sent-end : Ended State DmmAnswer
+  sent-end = ended (Sent dmmLength) s (laid 0 (dmmOf s stamp) buffer)
 
-  at-2 : wellFormed s ≡ false → o ≡ dmmEnded NotWellFormed buffer
+  at-2 : wellFormed s ≡ false → o ≡ ended NotWellFormed s buffer
   unfolding sendDmm choose
   at-2 w = rw w
 
   module _ (w : wellFormed s ≡ true) where
-    at-6 : good stamp ≡ false → o ≡ dmmEnded BadStamp buffer
+    at-6 : good stamp ≡ false → o ≡ ended BadStamp s buffer
     unfolding sendDmm
     at-6 g = second few bad-end stamp-end short-end sent-end w g
 
-    at-3 : good stamp ≡ true → length buffer < 51 → o ≡ dmmEnded NoRoom buffer
+    at-3 : good stamp ≡ true → length buffer < 51 → o ≡ ended NoRoom s buffer
     unfolding sendDmm
     at-3 g h = third few bad-end stamp-end short-end sent-end w g (lt-ltb (length buffer) 51 h)
 
-    at-sent : good stamp ≡ true → 51 ≤ length buffer → o ≡ dmmEnded Sent (laid 0 (dmmOf s stamp) buffer)
+    at-sent : good stamp ≡ true → 51 ≤ length buffer → o ≡ ended (Sent dmmLength) s (laid 0 (dmmOf s stamp) buffer)
     unfolding sendDmm
     at-sent g h = none-of few bad-end stamp-end short-end sent-end w g (le-ltb (length buffer) 51 h)
 
@@ -92,10 +95,10 @@ module _ (s : State) (stamp : Stamp) (buffer : List ℕ) where
 
   -- r and y are the outcome, and r is told by its number
   abbrev Outcome : DmmAnswer → List ℕ → Type 0
-  Outcome r y = (dmmEnded r y ≡ o) × (dmmTold r ≡ dmmNumbers s stamp buffer)
+  Outcome r y = (ended r s y ≡ o) × (dmmTold r ≡ dmmNumbers s stamp buffer)
 
-  told-so : {r : DmmAnswer} {y : List ℕ} → o ≡ dmmEnded r y → Outcome r y
-  told-so e = (sym e, ap (λ (t : DmmEnd). dmmTold (t .answer)) (sym e) ∙ agree)
+  told-so : {r : DmmAnswer} {y : List ℕ} → o ≡ ended r s y → Outcome r y
+  told-so e = (sym e, ap (λ (t : Ended State DmmAnswer). dmmTold (t .answer)) (sym e) ∙ agree)
 
   pub ends-2 : {b : Bool} → b ≡ wellFormed s → not b ≡ true → Outcome NotWellFormed buffer
   ends-2 {b} e h = told-so (at-2 (sym e ∙ not-true b h))
@@ -108,20 +111,20 @@ module _ (s : State) (stamp : Stamp) (buffer : List ℕ) where
     pub ends-3 : answer ≡ written.NoRoom → Outcome NoRoom after
     ends-3 a =
         let found = none (dmmOf s stamp) buffer 51 long wrote left a in
-        told-so (at-3 (sym e ∙ not-false b h) (sym f ∙ not-false d k) (found .0) ∙ ap (λ (y : List ℕ). dmmEnded NoRoom y) (sym (found .1)))
+        told-so (at-3 (sym e ∙ not-false b h) (sym f ∙ not-false d k) (found .0) ∙ ap (λ (y : List ℕ). ended NoRoom s y) (sym (found .1)))
 
-    pub ends-sent : {n : ℕ} → answer ≡ written.Octets n → Outcome Sent after
+    pub ends-sent : {n : ℕ} → answer ≡ written.Octets n → Outcome (Sent n) after
     ends-sent a =
         let found = some (dmmOf s stamp) buffer 51 long wrote left a in
-        told-so (at-sent (sym e ∙ not-false b h) (sym f ∙ not-false d k) (found .0) ∙ ap (λ (y : List ℕ). dmmEnded Sent y) (sym (found .1)))
+        told-so (at-sent (sym e ∙ not-false b h) (sym f ∙ not-false d k) (found .0) ∙ ap₂ (λ (m : ℕ) (y : List ℕ). ended (Sent m) s y) (sym (found .2)) (sym (found .1)))
 
   -- ── the statement ──
 
   data Case : Type 0 where
-    bad : (WellFormed s → ⊥) → o ≡ dmmEnded NotWellFormed buffer → Case
-    stamped : WellFormed s → 999999999 < stamp .nanoseconds → o ≡ dmmEnded BadStamp buffer → Case
-    short : WellFormed s → stamp .nanoseconds ≤ 999999999 → length buffer < 51 → o ≡ dmmEnded NoRoom buffer → Case
-    sends : WellFormed s → stamp .nanoseconds ≤ 999999999 → 51 ≤ length buffer → o ≡ dmmEnded Sent (laid 0 (dmmOf s stamp) buffer) → Case
+    bad : (WellFormed s → ⊥) → o ≡ ended NotWellFormed s buffer → Case
+    stamped : WellFormed s → 999999999 < stamp .nanoseconds → o ≡ ended BadStamp s buffer → Case
+    short : WellFormed s → stamp .nanoseconds ≤ 999999999 → length buffer < 51 → o ≡ ended NoRoom s buffer → Case
+    sends : WellFormed s → stamp .nanoseconds ≤ 999999999 → 51 ≤ length buffer → o ≡ ended (Sent dmmLength) s (laid 0 (dmmOf s stamp) buffer) → Case
 
   cases : Case
   cases = ⊎-elim well (λ f. bad (λ w. false≢true (sym f ∙ well-formed-is .well-formed-is s .1 w)) (at-2 f)) (known (wellFormed s))
@@ -143,8 +146,8 @@ module _ (s : State) (stamp : Stamp) (buffer : List ℕ) where
           (known (good stamp))
 
   -- an outcome with another answer is none
-  not-it : {x : DmmEnd} {n : ℕ} → o ≡ x → numbered (o .answer) ≡ n → eqb (numbered (x .answer)) n ≡ false → ⊥
-  not-it {x} {n} e a f = eqb-false (numbered (x .answer)) n f (sym (ap (λ (t : DmmEnd). numbered (t .answer)) e) ∙ a)
+  not-it : {x : Ended State DmmAnswer} {n : ℕ} → o ≡ x → numbered (o .answer) ≡ n → eqb (numbered (x .answer)) n ≡ false → ⊥
+  not-it {x} {n} e a f = eqb-false (numbered (x .answer)) n f (sym (ap (λ (t : Ended State DmmAnswer). numbered (t .answer)) e) ∙ a)
 
   is-2 : Case → numbered (o .answer) ≡ 2 → WellFormed s → ⊥
   unfolding numbered
@@ -175,9 +178,6 @@ module _ (s : State) (stamp : Stamp) (buffer : List ℕ) where
   is-sent (sends v g k e) a = (v, g, k)
 
   -- the other way round
-  answer-is : {x : DmmEnd} → o ≡ x → o .answer ≡ x .answer
-  answer-is e = ap (λ (t : DmmEnd). t .answer) e
-
   not-well : (WellFormed s → ⊥) → wellFormed s ≡ false
   not-well n = ⊎-elim (λ t. absurd (n (well-formed-is .well-formed-is s .0 t))) (λ f. f) (known (wellFormed s))
 
@@ -185,17 +185,23 @@ module _ (s : State) (stamp : Stamp) (buffer : List ℕ) where
   is-well w = well-formed-is .well-formed-is s .1 w
 
   -- what is told, by the outcome
-  refusal-of : {x : DmmEnd} → o ≡ x → dmmTold (o .answer) .refusal ≡ dmmTold (x .answer) .refusal
-  refusal-of e = ap (λ (t : DmmEnd). dmmTold (t .answer) .refusal) e
+  refusal-of : {x : Ended State DmmAnswer} → o ≡ x → dmmTold (o .answer) .refusal ≡ dmmTold (x .answer) .refusal
+  refusal-of e = ap (λ (t : Ended State DmmAnswer). dmmTold (t .answer) .refusal) e
 
   refused : Case → (dmmTold (o .answer) .refusal ≡ 0 → ⊥) → o .buffer ≡ buffer
   unfolding dmmTold
-  refused (bad n e) r = ap (λ (t : DmmEnd). t .buffer) e
-  refused (stamped v g e) r = ap (λ (t : DmmEnd). t .buffer) e
-  refused (short v g k e) r = ap (λ (t : DmmEnd). t .buffer) e
+  refused (bad n e) r = buffer-is e
+  refused (stamped v g e) r = buffer-is e
+  refused (short v g k e) r = buffer-is e
   refused (sends v g k e) r = absurd (r (refusal-of e))
 
-  writes : Case → dmmTold (o .answer) .refusal ≡ 0 → o ≡ dmmEnded Sent (laid 0 (dmmOf s stamp) buffer)
+  keeps : Case → o .state ≡ s
+  keeps (bad n e) = state-is e
+  keeps (stamped v g e) = state-is e
+  keeps (short v g k e) = state-is e
+  keeps (sends v g k e) = state-is e
+
+  writes : Case → dmmTold (o .answer) .refusal ≡ 0 → o ≡ ended (Sent dmmLength) s (laid 0 (dmmOf s stamp) buffer)
   unfolding dmmTold
   writes (bad n e) r = absurd (eqb-false 2 0 refl (sym (refusal-of e) ∙ r))
   writes (stamped v g e) r = absurd (eqb-false 6 0 refl (sym (refusal-of e) ∙ r))
@@ -209,22 +215,23 @@ dmm-of-long s stamp h k = dmm-long _ _ _ _ h k
 pub sends-dmm : SendsDmm
 unfolding numbered
 sends-dmm = record {
-  refuses-2 = λ s stamp b. (λ a. is-2 s stamp b (cases s stamp b) (ap numbered a), λ n. answer-is s stamp b (at-2 s stamp b (not-well s stamp b n)));
+  refuses-2 = λ s stamp b. (λ a. is-2 s stamp b (cases s stamp b) (ap numbered a), λ n. answer-is (at-2 s stamp b (not-well s stamp b n)));
   refuses-6 = λ s stamp b. (
     λ a. is-6 s stamp b (cases s stamp b) (ap numbered a),
-    λ h. answer-is s stamp b (at-6 s stamp b (is-well s stamp b (h .0)) (lt-leb (stamp .nanoseconds) 999999999 (h .1))),
+    λ h. answer-is (at-6 s stamp b (is-well s stamp b (h .0)) (lt-leb (stamp .nanoseconds) 999999999 (h .1))),
   );
   refuses-3 = λ s stamp b. (
     λ a. is-3 s stamp b (cases s stamp b) (ap numbered a),
-    λ h. answer-is s stamp b (at-3 s stamp b (is-well s stamp b (h .0)) (le-leb (stamp .nanoseconds) 999999999 (h .1)) (h .2)),
+    λ h. answer-is (at-3 s stamp b (is-well s stamp b (h .0)) (le-leb (stamp .nanoseconds) 999999999 (h .1)) (h .2)),
   );
   sends = λ s stamp b. (
     λ a. is-sent s stamp b (cases s stamp b) (ap numbered a),
-    λ h. answer-is s stamp b (at-sent s stamp b (is-well s stamp b (h .0)) (le-leb (stamp .nanoseconds) 999999999 (h .1)) (h .2)),
+    λ h. answer-is (at-sent s stamp b (is-well s stamp b (h .0)) (le-leb (stamp .nanoseconds) 999999999 (h .1)) (h .2)),
   );
-  sends-zero = λ s b w l. answer-is s notGiven b (at-sent s notGiven b (is-well s notGiven b w) refl l);
+  sends-zero = λ s b w l. answer-is (at-sent s notGiven b (is-well s notGiven b w) refl l);
   refused = λ s stamp b. refused s stamp b (cases s stamp b);
   writes = λ s stamp b. writes s stamp b (cases s stamp b);
+  keeps = λ s stamp b. keeps s stamp b (cases s stamp b);
   long = dmm-of-long;
   agree = agree;
 }

@@ -2,11 +2,11 @@
 -- the source's own clauses. Assumes nothing.
 use mathlib.Core.Path.{_≡_, sym, ap, _∙_}
 use denote.Ref.{now}
-use Rattle.call_send_dmm.specs.Dmm.{DmmEnd}
+use Rattle.base_laws.proofs.Ended.{answer-is, buffer-is}
 use Rattle.call_send_dmm.proofs.send_dmm.Reads as send-dmm
 
 pub send-dmm-one : (κs : _) (a : _) (r r′ : _) (s s′ : _) → send-dmm.Post κs a r s → send-dmm.Post κs a r′ s′
     → (r ≡ r′) × (now (s .1 .1 .1 .1 .1 .1 .1 .1 .0) ≡ now (s′ .1 .1 .1 .1 .1 .1 .1 .1 .0))
 send-dmm-one κs a r r′ s s′ p q =
     let e = p .0 .0 ∙ sym (q .0 .0) in
-    (ap (λ (t : DmmEnd). t .answer) e, ap (λ (t : DmmEnd). t .buffer) e)
+    (answer-is e, buffer-is e)

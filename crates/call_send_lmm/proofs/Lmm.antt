@@ -1,12 +1,14 @@
 -- How a call for an LMM ends, and the statement of specs/Lmm.antt. Assumes nothing.
 use Prim.Native.Nat.{ℕ, _≤_, _<_}
-use mathlib.Core.Path.{_≡_, refl, sym, ap, _∙_}
+use mathlib.Core.Path.{_≡_, refl, sym, ap, ap₂, _∙_}
 use mathlib.Core.Bool.{Bool, true, false, not, false≢true}
 use mathlib.Core.List.{List, [], _∷_}
 use mathlib.Core.Logic.{⊎-elim}
 use lib.Dec.{ltb, eqb}
 use lib.ListN.{length}
 use borrow.Author.Tests.{ltb-true, ltb-false, lt-ltb, le-ltb, eqb-false, not-true, not-false}
+use Rattle.base_laws.specs.Ended.{Ended, ended}
+use Rattle.base_laws.proofs.Ended.{answer-is, state-is, buffer-is}
 use Rattle.base_laws.specs.Tests.{choose}
 use Rattle.base_laws.specs.Lists.{laid}
 use Rattle.base_laws.proofs.Tests.{known, choose-map}
@@ -17,9 +19,10 @@ use Rattle.message_parts.specs.declared.parts.Written.{Written}
 use Rattle.message_parts.specs.declared.parts.Written.the-variants as written
 use Rattle.message_parts.specs.Buffer.{writtenOf, bufferOf}
 use Rattle.message_requests.proofs.Laid.{lmm-long}
+use Rattle.message_requests.specs.Requests.{lmmLength}
 use Rattle.call_send_answer.specs.declared.LmmAnswer.{LmmAnswer}
 use Rattle.call_send_answer.specs.declared.LmmAnswer.the-variants.{NotWellFormed, NoRoom, Sent}
-use Rattle.call_send_lmm.specs.Lmm.{lmmOf, LmmEnd, lmmEnded, sendLmm, lmmNumbers, SendsLmm}
+use Rattle.call_send_lmm.specs.Lmm.{lmmOf, sendLmm, lmmNumbers, SendsLmm}
 use Rattle.call_send_answer.specs.Told.{lmmTold}
 use Rattle.message_parts.proofs.Written.{none, some}
 
@@ -27,10 +30,10 @@ use Rattle.message_parts.proofs.Written.{none, some}
 numbered : LmmAnswer → ℕ
 numbered NotWellFormed = 2
 numbered NoRoom = 3
-numbered Sent = 0
+numbered (Sent n) = 0
 
 -- of two rules the second decides, or neither
-module _ {b d : Bool} (x y z : LmmEnd) (first : b ≡ true) where
+module _ {b d : Bool} (x y z : Ended State LmmAnswer) (first : b ≡ true) where
   second : d ≡ true → choose ((not b, x) ∷ (d, y) ∷ []) z ≡ y
   unfolding choose
   second h = rw (first, h)
@@ -40,34 +43,34 @@ module _ {b d : Bool} (x y z : LmmEnd) (first : b ≡ true) where
   neither h = rw (first, h)
 
 module _ (s : State) (buffer : List ℕ) where
-  abbrev o : LmmEnd
+  abbrev o : Ended State LmmAnswer
   o = sendLmm s buffer
 
   agree : lmmTold (o .answer) ≡ lmmNumbers s buffer
   unfolding sendLmm lmmTold lmmNumbers
-  agree = choose-map (λ (t : LmmEnd). lmmTold (t .answer)) _ _
+  agree = choose-map (λ (t : Ended State LmmAnswer). lmmTold (t .answer)) _ _
 
   -- ── one law for each way ──
 
-  abbrev bad-end : LmmEnd
-  bad-end = lmmEnded NotWellFormed buffer
+  abbrev bad-end : Ended State LmmAnswer
+  bad-end = ended NotWellFormed s buffer
 
-  abbrev short-end : LmmEnd
-  short-end = lmmEnded NoRoom buffer
+  abbrev short-end : Ended State LmmAnswer
+  short-end = ended NoRoom s buffer
 
-  abbrev sent-end : LmmEnd
-  sent-end = lmmEnded Sent (laid 0 (lmmOf s) buffer)
+  abbrev sent-end : Ended State LmmAnswer
+  sent-end = ended (Sent lmmLength) s (laid 0 (lmmOf s) buffer)
 
-  at-2 : wellFormed s ≡ false → o ≡ lmmEnded NotWellFormed buffer
+  at-2 : wellFormed s ≡ false → o ≡ ended NotWellFormed s buffer
   unfolding sendLmm choose
   at-2 w = rw w
 
   module _ (w : wellFormed s ≡ true) where
-    at-3 : length buffer < 31 → o ≡ lmmEnded NoRoom buffer
+    at-3 : length buffer < 31 → o ≡ ended NoRoom s buffer
     unfolding sendLmm
     at-3 h = second bad-end short-end sent-end w (lt-ltb (length buffer) 31 h)
 
-    at-sent : 31 ≤ length buffer → o ≡ lmmEnded Sent (laid 0 (lmmOf s) buffer)
+    at-sent : 31 ≤ length buffer → o ≡ ended (Sent lmmLength) s (laid 0 (lmmOf s) buffer)
     unfolding sendLmm
     at-sent h = neither bad-end short-end sent-end w (le-ltb (length buffer) 31 h)
 
@@ -75,10 +78,10 @@ module _ (s : State) (buffer : List ℕ) where
 
   -- r and y are the outcome, and r is told by its number
   abbrev Outcome : LmmAnswer → List ℕ → Type 0
-  Outcome r y = (lmmEnded r y ≡ o) × (lmmTold r ≡ lmmNumbers s buffer)
+  Outcome r y = (ended r s y ≡ o) × (lmmTold r ≡ lmmNumbers s buffer)
 
-  told-so : {r : LmmAnswer} {y : List ℕ} → o ≡ lmmEnded r y → Outcome r y
-  told-so e = (sym e, ap (λ (t : LmmEnd). lmmTold (t .answer)) (sym e) ∙ agree)
+  told-so : {r : LmmAnswer} {y : List ℕ} → o ≡ ended r s y → Outcome r y
+  told-so e = (sym e, ap (λ (t : Ended State LmmAnswer). lmmTold (t .answer)) (sym e) ∙ agree)
 
   pub ends-2 : {b : Bool} → b ≡ wellFormed s → not b ≡ true → Outcome NotWellFormed buffer
   ends-2 {b} e h = told-so (at-2 (sym e ∙ not-true b h))
@@ -88,19 +91,19 @@ module _ (s : State) (buffer : List ℕ) where
     pub ends-3 : answer ≡ written.NoRoom → Outcome NoRoom after
     ends-3 a =
         let found = none (lmmOf s) buffer 31 long wrote left a in
-        told-so (at-3 (sym e ∙ not-false b h) (found .0) ∙ ap (λ (y : List ℕ). lmmEnded NoRoom y) (sym (found .1)))
+        told-so (at-3 (sym e ∙ not-false b h) (found .0) ∙ ap (λ (y : List ℕ). ended NoRoom s y) (sym (found .1)))
 
-    pub ends-sent : {n : ℕ} → answer ≡ written.Octets n → Outcome Sent after
+    pub ends-sent : {n : ℕ} → answer ≡ written.Octets n → Outcome (Sent n) after
     ends-sent a =
         let found = some (lmmOf s) buffer 31 long wrote left a in
-        told-so (at-sent (sym e ∙ not-false b h) (found .0) ∙ ap (λ (y : List ℕ). lmmEnded Sent y) (sym (found .1)))
+        told-so (at-sent (sym e ∙ not-false b h) (found .0) ∙ ap₂ (λ (m : ℕ) (y : List ℕ). ended (Sent m) s y) (sym (found .2)) (sym (found .1)))
 
   -- ── the statement ──
 
   data Case : Type 0 where
-    bad : (WellFormed s → ⊥) → o ≡ lmmEnded NotWellFormed buffer → Case
-    short : WellFormed s → length buffer < 31 → o ≡ lmmEnded NoRoom buffer → Case
-    sends : WellFormed s → 31 ≤ length buffer → o ≡ lmmEnded Sent (laid 0 (lmmOf s) buffer) → Case
+    bad : (WellFormed s → ⊥) → o ≡ ended NotWellFormed s buffer → Case
+    short : WellFormed s → length buffer < 31 → o ≡ ended NoRoom s buffer → Case
+    sends : WellFormed s → 31 ≤ length buffer → o ≡ ended (Sent lmmLength) s (laid 0 (lmmOf s) buffer) → Case
 
   cases : Case
   cases = ⊎-elim well (λ f. bad (λ w. false≢true (sym f ∙ well-formed-is .well-formed-is s .1 w)) (at-2 f)) (known (wellFormed s))
@@ -114,8 +117,8 @@ module _ (s : State) (buffer : List ℕ) where
           (known (ltb (length buffer) 31))
 
   -- an outcome with another answer is none
-  not-it : {x : LmmEnd} {n : ℕ} → o ≡ x → numbered (o .answer) ≡ n → eqb (numbered (x .answer)) n ≡ false → ⊥
-  not-it {x} {n} e a f = eqb-false (numbered (x .answer)) n f (sym (ap (λ (t : LmmEnd). numbered (t .answer)) e) ∙ a)
+  not-it : {x : Ended State LmmAnswer} {n : ℕ} → o ≡ x → numbered (o .answer) ≡ n → eqb (numbered (x .answer)) n ≡ false → ⊥
+  not-it {x} {n} e a f = eqb-false (numbered (x .answer)) n f (sym (ap (λ (t : Ended State LmmAnswer). numbered (t .answer)) e) ∙ a)
 
   is-2 : Case → numbered (o .answer) ≡ 2 → WellFormed s → ⊥
   unfolding numbered
@@ -136,9 +139,6 @@ module _ (s : State) (buffer : List ℕ) where
   is-sent (sends v k e) a = (v, k)
 
   -- the other way round
-  answer-is : {x : LmmEnd} → o ≡ x → o .answer ≡ x .answer
-  answer-is e = ap (λ (t : LmmEnd). t .answer) e
-
   not-well : (WellFormed s → ⊥) → wellFormed s ≡ false
   not-well n = ⊎-elim (λ t. absurd (n (well-formed-is .well-formed-is s .0 t))) (λ f. f) (known (wellFormed s))
 
@@ -146,16 +146,21 @@ module _ (s : State) (buffer : List ℕ) where
   is-well w = well-formed-is .well-formed-is s .1 w
 
   -- what is told, by the outcome
-  refusal-of : {x : LmmEnd} → o ≡ x → lmmTold (o .answer) .refusal ≡ lmmTold (x .answer) .refusal
-  refusal-of e = ap (λ (t : LmmEnd). lmmTold (t .answer) .refusal) e
+  refusal-of : {x : Ended State LmmAnswer} → o ≡ x → lmmTold (o .answer) .refusal ≡ lmmTold (x .answer) .refusal
+  refusal-of e = ap (λ (t : Ended State LmmAnswer). lmmTold (t .answer) .refusal) e
 
   refused : Case → (lmmTold (o .answer) .refusal ≡ 0 → ⊥) → o .buffer ≡ buffer
   unfolding lmmTold
-  refused (bad n e) r = ap (λ (t : LmmEnd). t .buffer) e
-  refused (short v k e) r = ap (λ (t : LmmEnd). t .buffer) e
+  refused (bad n e) r = buffer-is e
+  refused (short v k e) r = buffer-is e
   refused (sends v k e) r = absurd (r (refusal-of e))
 
-  writes : Case → lmmTold (o .answer) .refusal ≡ 0 → o ≡ lmmEnded Sent (laid 0 (lmmOf s) buffer)
+  keeps : Case → o .state ≡ s
+  keeps (bad n e) = state-is e
+  keeps (short v k e) = state-is e
+  keeps (sends v k e) = state-is e
+
+  writes : Case → lmmTold (o .answer) .refusal ≡ 0 → o ≡ ended (Sent lmmLength) s (laid 0 (lmmOf s) buffer)
   unfolding lmmTold
   writes (bad n e) r = absurd (eqb-false 2 0 refl (sym (refusal-of e) ∙ r))
   writes (short v k e) r = absurd (eqb-false 3 0 refl (sym (refusal-of e) ∙ r))
@@ -168,11 +173,12 @@ lmm-of-long s h k = lmm-long _ _ _ _ h k
 pub sends-lmm : SendsLmm
 unfolding numbered
 sends-lmm = record {
-  refuses-2 = λ s b. (λ a. is-2 s b (cases s b) (ap numbered a), λ n. answer-is s b (at-2 s b (not-well s b n)));
-  refuses-3 = λ s b. (λ a. is-3 s b (cases s b) (ap numbered a), λ h. answer-is s b (at-3 s b (is-well s b (h .0)) (h .1)));
-  sends = λ s b. (λ a. is-sent s b (cases s b) (ap numbered a), λ h. answer-is s b (at-sent s b (is-well s b (h .0)) (h .1)));
+  refuses-2 = λ s b. (λ a. is-2 s b (cases s b) (ap numbered a), λ n. answer-is (at-2 s b (not-well s b n)));
+  refuses-3 = λ s b. (λ a. is-3 s b (cases s b) (ap numbered a), λ h. answer-is (at-3 s b (is-well s b (h .0)) (h .1)));
+  sends = λ s b. (λ a. is-sent s b (cases s b) (ap numbered a), λ h. answer-is (at-sent s b (is-well s b (h .0)) (h .1)));
   refused = λ s b. refused s b (cases s b);
   writes = λ s b. writes s b (cases s b);
+  keeps = λ s b. keeps s b (cases s b);
   long = lmm-of-long;
   agree = agree;
 }

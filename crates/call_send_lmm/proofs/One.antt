@@ -2,11 +2,11 @@
 -- the source's own clauses. Assumes nothing.
 use mathlib.Core.Path.{_≡_, sym, ap, _∙_}
 use denote.Ref.{now}
-use Rattle.call_send_lmm.specs.Lmm.{LmmEnd}
+use Rattle.base_laws.proofs.Ended.{answer-is, buffer-is}
 use Rattle.call_send_lmm.proofs.send_lmm.Reads as send-lmm
 
 pub send-lmm-one : (κs : _) (a : _) (r r′ : _) (s s′ : _) → send-lmm.Post κs a r s → send-lmm.Post κs a r′ s′
     → (r ≡ r′) × (now (s .1 .1 .1 .1 .1 .1 .1 .0) ≡ now (s′ .1 .1 .1 .1 .1 .1 .1 .0))
 send-lmm-one κs a r r′ s s′ p q =
     let e = p .0 ∙ sym (q .0) in
-    (ap (λ (t : LmmEnd). t .answer) e, ap (λ (t : LmmEnd). t .buffer) e)
+    (answer-is e, buffer-is e)

@@ -8,14 +8,15 @@ use lib.Dec.{ltb}
 use lib.ListN.{length}
 use Rattle.base_laws.specs.Tests.{choose}
 use Rattle.base_laws.specs.Lists.{laid}
+use Rattle.base_laws.specs.Ended.{Ended, ended}
 use Rattle.state_view.specs.State.{State}
 use Rattle.state_view.specs.WellFormed.{WellFormed, wellFormed}
-use Rattle.message_requests.specs.Requests.{lmmOctets}
+use Rattle.message_requests.specs.Requests.{lmmOctets, lmmLength}
 use Rattle.call_send_answer.specs.declared.LmmAnswer.{LmmAnswer}
 use Rattle.call_send_answer.specs.declared.LmmAnswer.the-variants.{NotWellFormed, NoRoom, Sent}
 use Rattle.message_parts.specs.declared.parts.WrittenTold.{WrittenTold}
 use Rattle.message_parts.specs.Buffer.{numbers}
-use Rattle.call_send_answer.specs.Told.{lmmLength, lmmTold}
+use Rattle.call_send_answer.specs.Told.{lmmTold}
 
 -- to the loss peer, from us, with our sent count
 unfoldable pub lmmOf : State → List ℕ
@@ -23,23 +24,14 @@ lmmOf s = lmmOctets (s .settings .losspeer) (s .settings .own) (s .settings .lev
 
 -- ── the whole outcome ──
 
--- what is answered, and what the buffer then holds
-pub record LmmEnd : Type 0 where
-  pub answer : LmmAnswer
-  pub buffer : List ℕ
-
--- the two by name
-abbrev pub lmmEnded : LmmAnswer → List ℕ → LmmEnd
-lmmEnded answer buffer = record { answer = answer; buffer = buffer }
-
 -- refusal 2; refusal 3; the message laid over the buffer's first octets
-unfoldable pub sendLmm : State → List ℕ → LmmEnd
+unfoldable pub sendLmm : State → List ℕ → Ended State LmmAnswer
 sendLmm s buffer =
     choose (
-    (not (wellFormed s), lmmEnded NotWellFormed buffer)
-    ∷ (ltb (length buffer) lmmLength, lmmEnded NoRoom buffer)
+    (not (wellFormed s), ended NotWellFormed s buffer)
+    ∷ (ltb (length buffer) lmmLength, ended NoRoom s buffer)
     ∷ [])
-    (lmmEnded Sent (laid 0 (lmmOf s) buffer))
+    (ended (Sent lmmLength) s (laid 0 (lmmOf s) buffer))
 
 -- ── in the paper's numbers ──
 
@@ -57,10 +49,12 @@ pub record SendsLmm : Type 0 where
   -- each answer exactly where its line holds and none before it
   pub refuses-2 : (s : State) (buffer : List ℕ) → (sendLmm s buffer .answer ≡ NotWellFormed) ↔ (WellFormed s → ⊥)
   pub refuses-3 : (s : State) (buffer : List ℕ) → (sendLmm s buffer .answer ≡ NoRoom) ↔ (WellFormed s × (length buffer < 31))
-  pub sends : (s : State) (buffer : List ℕ) → (sendLmm s buffer .answer ≡ Sent) ↔ (WellFormed s × (31 ≤ length buffer))
+  pub sends : (s : State) (buffer : List ℕ) → (sendLmm s buffer .answer ≡ Sent lmmLength) ↔ (WellFormed s × (31 ≤ length buffer))
   -- a refused call leaves the buffer as it was; what is sent is the LMM, and octets behind it stay
   pub refused : (s : State) (buffer : List ℕ) → (lmmTold (sendLmm s buffer .answer) .refusal ≡ 0 → ⊥) → sendLmm s buffer .buffer ≡ buffer
-  pub writes : (s : State) (buffer : List ℕ) → lmmTold (sendLmm s buffer .answer) .refusal ≡ 0 → sendLmm s buffer ≡ lmmEnded Sent (laid 0 (lmmOf s) buffer)
+  pub writes : (s : State) (buffer : List ℕ) → lmmTold (sendLmm s buffer .answer) .refusal ≡ 0 → sendLmm s buffer ≡ ended (Sent lmmLength) s (laid 0 (lmmOf s) buffer)
+  -- whatever is answered, the state stays as it was
+  pub keeps : (s : State) (buffer : List ℕ) → sendLmm s buffer .state ≡ s
   -- it is 31 octets long, an address being 6
   pub long : (s : State) → length (s .settings .losspeer) ≡ 6 → length (s .settings .own) ≡ 6 → length (lmmOf s) ≡ 31
   -- an answer is told as the paper numbers it

@@ -14,8 +14,8 @@ use Rattle.state_settings.specs.Valid.{Valid, valid}
 use Rattle.loss_session.proofs.Laws.{cleared-well}
 use Rattle.state_view.specs.State.{shown}
 use Rattle.state_view.specs.WellFormed.{WellFormed}
-use Rattle.call_setting_answer.specs.declared.SettingAnswer.the-variants.{Invalid, Set}
-use Rattle.call_setting_answer.specs.Told.{told}
+use Rattle.call_setting.specs.declared.SettingAnswer.the-variants.{Invalid, Set}
+use Rattle.call_setting.specs.Told.{told}
 use Rattle.call_setting.specs.Start.{startOf, zeroState, afterSetting, answerOf, startedWith, noState, settingOf, numbersOf, Starts}
 
 -- zeros, at every place and past the end

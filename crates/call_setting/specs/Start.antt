@@ -4,21 +4,22 @@
 use Prim.Native.Nat.{ℕ}
 use mathlib.Core.Path.{_≡_}
 use mathlib.Core.Bool.{cond}
-use mathlib.Core.List.{List, [], _∷_}
+use mathlib.Core.List.{List}
 use lib.IntN.{pos}
 use lib.ListN.{replicate, set}
 use Rattle.base_laws.specs.Lists.{onFirst}
 use Rattle.base_period.specs.Periods.{ticksOf, holdOf}
-use Rattle.state_settings.specs.Settings.{slots, Settings, settingsOf}
+use Rattle.state_settings.specs.Settings.{slots, Settings, settingsOf, nameOctets, setWords}
 use Rattle.state_settings.specs.Valid.{Valid, valid}
 use Rattle.loss_session.specs.Session.{clearedSession}
-use Rattle.state_view.specs.State.{State, shown}
+use Rattle.state_view.specs.State.{State, shown, runWords, lossTotals}
+use Rattle.state_view.specs.Changed.{next, placeOf}
 use Rattle.state_view.specs.declared.StateArrays.{StateArrays}
 use Rattle.state_view.specs.WellFormed.{WellFormed}
-use Rattle.call_setting_answer.specs.declared.SettingAnswer.{SettingAnswer}
-use Rattle.call_setting_answer.specs.declared.SettingAnswer.the-variants.{Invalid, Set}
-use Rattle.call_setting_answer.specs.declared.SettingTold.{SettingTold}
-use Rattle.call_setting_answer.specs.Told.{told}
+use Rattle.call_setting.specs.declared.SettingAnswer.{SettingAnswer}
+use Rattle.call_setting.specs.declared.SettingAnswer.the-variants.{Invalid, Set}
+use Rattle.call_setting.specs.declared.SettingTold.{SettingTold}
+use Rattle.call_setting.specs.Told.{told}
 use Rattle.call_setting.specs.declared.Started.{Started}
 
 abbrev pub startOf : Settings → State
@@ -41,13 +42,13 @@ startOf s = record {
 -- every word, octet and total 0
 abbrev pub zeroArrays : StateArrays
 zeroArrays = record {
-  set = replicate 4 0;
-  names = replicate 60 0;
+  set = replicate setWords 0;
+  names = replicate nameOctets 0;
   ids = replicate slots 0;
   timers = replicate slots 0;
   rdi = replicate slots 0;
-  run = replicate 15 0;
-  totals = pos 0 ∷ pos 0 ∷ [];
+  run = replicate runWords 0;
+  totals = replicate lossTotals (pos 0);
 }
 
 abbrev pub zeroState : State
@@ -70,8 +71,8 @@ startArrays words names ids = record {
   ids = ids;
   timers = startOf (settingsOf words names ids) .timers;
   rdi = replicate slots 0;
-  run = set (replicate 15 0) 6 (ticksOf (settingsOf words names ids .period));
-  totals = pos 0 ∷ pos 0 ∷ [];
+  run = set (replicate runWords 0) (placeOf next) (ticksOf (settingsOf words names ids .period));
+  totals = replicate lossTotals (pos 0);
 }
 
 unfoldable pub startedWith : List ℕ → List ℕ → List ℕ → Started

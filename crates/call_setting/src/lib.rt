@@ -1,20 +1,49 @@
-// A new setting: the state that it starts with, or the all-zero state where it is not valid, handed out by value.
-// Settings are lent for reading, so that a refusal leaves all that was handed over: a box that runs is not touched by a setting that breaks
-// a rule.
+// A new setting: the state that it starts with, or the all-zero state where it is not valid; the answer, and its number.
+// Settings are lent for reading and the state is handed out by value, so that a refusal leaves all that was handed over: a box that runs is
+// not touched by a setting that breaks a rule.
 ghost use mathlib.Core.Path.{_≡_};
 ghost use Rattle.base_laws.specs.Lists.{onFirst};
-ghost use Rattle.state_settings.specs.Settings.{slots, settingsOf, Shaped};
-ghost use Rattle.call_setting_answer.specs.Told.{told};
+ghost use Rattle.state_settings.specs.Settings.{slots, lentSettings, Shaped};
+ghost use Rattle.call_setting.specs.Told.{told};
 ghost use Rattle.call_setting.specs.Start.{noState, startedWith, settingOf, numbersOf};
 use base_period::hold_of;
 use base_period::ticks_of;
-use call_setting_answer::SettingAnswer;
 use state_settings::COUNT;
+use state_settings::NAMES;
+use state_settings::Names;
 use state_settings::PEERS;
 use state_settings::PERIOD;
+use state_settings::SET;
+use state_settings::Set;
+use state_settings::Slots;
 use state_settings::is_valid;
 use state_view::NEXT;
+use state_view::RUN;
 use state_view::StateArrays;
+use state_view::TOTALS;
+
+// What a new setting is answered.
+pub enum SettingAnswer {
+    // Refusal 4: it breaks a rule on its values.
+    Invalid,
+    Set,
+}
+
+// An answer in the paper's numbers: the refusal, or 0.
+#[repr(C)]
+pub struct SettingTold {
+    pub refusal: u32,
+}
+
+// An answer in the paper's numbers.
+pub fn tell(answer: SettingAnswer) -> SettingTold
+    ensures { λ r. ⌜ r ≡ told answer ⌝ }
+{
+    match answer {
+        SettingAnswer::Invalid => SettingTold { refusal: 4 },
+        SettingAnswer::Set => SettingTold { refusal: 0 },
+    }
+}
 
 // What a new setting is answered, and the state that it hands out.
 pub struct Started {
@@ -29,13 +58,13 @@ fn none() -> Started
     Started {
         answer: SettingAnswer::Invalid,
         state: StateArrays {
-            set: [0; 4],
-            names: [0; 60],
+            set: [0; SET],
+            names: [0; NAMES],
             ids: [0; PEERS],
             timers: [0; PEERS],
             rdi: [0; PEERS],
-            run: [0; 15],
-            totals: [0; 2],
+            run: [0; RUN],
+            totals: [0; TOTALS],
         },
     }
 }
@@ -57,13 +86,13 @@ fn start_timers(timers: &mut [u32], count: u32, hold: u32)
 }
 
 // The state that valid settings start with.
-fn begin(set: &[u32; 4], names: &[u8; 60], ids: &[u32; PEERS]) -> Started
+fn begin(set: &Set, names: &Names, ids: &Slots) -> Started
     ensures { λ r. ⌜ r ≡ startedWith (now (set .entry)) (now (names .entry)) (now (ids .entry)) ⌝ }
 {
     let period = set[PERIOD];
     let mut timers = [0; PEERS];
     start_timers(&mut timers, set[COUNT], hold_of(period));
-    let mut run = [0; 15];
+    let mut run = [0; RUN];
     run[NEXT] = ticks_of(period);
     Started {
         answer: SettingAnswer::Set,
@@ -74,16 +103,16 @@ fn begin(set: &[u32; 4], names: &[u8; 60], ids: &[u32; PEERS]) -> Started
             timers,
             rdi: [0; PEERS],
             run,
-            totals: [0; 2],
+            totals: [0; TOTALS],
         },
     }
 }
 
 // Takes settings as they lie: the state that they start with, or all zeros where they are not valid. It takes no old state.
-pub fn new_setting(set: &[u32; 4], names: &[u8; 60], ids: &[u32; PEERS]) -> Started
+pub fn new_setting(set: &Set, names: &Names, ids: &Slots) -> Started
     ensures { λ r. ⌜ r ≡ settingOf (now (set .entry)) (now (names .entry)) (now (ids .entry)) ⌝ }
-    ensures { λ r. ⌜ told (r .answer) ≡ numbersOf (settingsOf (now (set .entry)) (now (names .entry)) (now (ids .entry))) ⌝ }
-    ensures { λ _. ⌜ Shaped slots (settingsOf (now (set .entry)) (now (names .entry)) (now (ids .entry))) ⌝ }
+    ensures { λ r. ⌜ told (r .answer) ≡ numbersOf (lentSettings set names ids) ⌝ }
+    ensures { λ _. ⌜ Shaped slots (lentSettings set names ids) ⌝ }
 {
     // a view of an array tells its length, and costs nothing
     let _names: &[u8] = names;

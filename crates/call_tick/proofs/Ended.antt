@@ -6,6 +6,7 @@ use mathlib.Core.List.{List}
 use native.Mathlib.Omega.{arith}
 use lib.ListN.{length}
 use borrow.Author.Tests.{lt-ltb, le-ltb, not-true, not-false}
+use Rattle.base_laws.specs.Ended.{Ended, ended}
 use Rattle.base_laws.specs.Tests.{choose}
 use Rattle.base_laws.specs.Lists.{laid}
 use Rattle.base_laws.proofs.Tests.{choose-map}
@@ -14,16 +15,17 @@ use Rattle.state_view.specs.State.{State}
 use Rattle.state_view.specs.WellFormed.{wellFormed}
 use Rattle.state_view.specs.Changed.{next, put, lowered}
 use Rattle.message_parts.specs.Buffer.{bufferOf}
+use Rattle.message_ccm.specs.Continuity.{ccmLength}
 use Rattle.call_tick_ccm.specs.Ccm.{ccmOf}
 use Rattle.call_send_answer.specs.declared.TickAnswer.{TickAnswer}
 use Rattle.call_send_answer.specs.declared.TickAnswer.the-variants.{NotWellFormed, NoRoom, Quiet, Sent}
-use Rattle.call_tick.specs.Tick.{tickedOf, Ticked, ended, tickOf, numbersOf}
+use Rattle.call_tick.specs.Tick.{tickedOf, tickOf, numbersOf}
 use Rattle.call_send_answer.specs.Told.{tickTold}
 
 -- an answer is told as the paper numbers it
 pub agree : (s : State) (buffer : List ℕ) → tickTold (tickOf s buffer .answer) ≡ numbersOf s buffer
 unfolding tickOf tickTold numbersOf
-agree s buffer = choose-map (λ (t : Ticked). tickTold (t .answer)) _ _
+agree s buffer = choose-map (λ (t : Ended State TickAnswer). tickTold (t .answer)) _ _
 
 -- there is room for the message, so it is laid
 room : (message buffer : List ℕ) → length message ≡ 89 → 89 ≤ length buffer → bufferOf message buffer ≡ laid 0 message buffer
@@ -42,7 +44,7 @@ module _ (s : State) (buffer : List ℕ) where
   Outcome r x y = (ended r x y ≡ tickOf s buffer) × (tickTold r ≡ numbersOf s buffer)
 
   numbered : {r : TickAnswer} {x : State} {y : List ℕ} → tickOf s buffer ≡ ended r x y → Outcome r x y
-  numbered e = (sym e, ap (λ (t : Ticked). tickTold (t .answer)) (sym e) ∙ agree s buffer)
+  numbered e = (sym e, ap (λ (t : Ended State TickAnswer). tickTold (t .answer)) (sym e) ∙ agree s buffer)
 
   pub at-2 : wellFormed s ≡ false → tickOf s buffer ≡ ended NotWellFormed s buffer
   unfolding tickOf choose
@@ -58,7 +60,7 @@ module _ (s : State) (buffer : List ℕ) where
       unfolding tickOf choose
       at-3 k = rw (w, le-ltb 1 (s .next) h, lt-ltb (length buffer) 89 k)
 
-      pub at-sent : 89 ≤ length buffer → tickOf s buffer ≡ ended Sent (tickedOf s) (laid 0 (ccmOf (tickedOf s)) buffer)
+      pub at-sent : 89 ≤ length buffer → tickOf s buffer ≡ ended (Sent ccmLength) (tickedOf s) (laid 0 (ccmOf (tickedOf s)) buffer)
       unfolding tickOf choose
       at-sent k = rw (w, le-ltb 1 (s .next) h, le-ltb (length buffer) 89 k)
 
@@ -80,8 +82,8 @@ module _ (s : State) (buffer : List ℕ) where
   ends-3 w h k = numbered (at-3 w h k)
 
   pub ends-sent : {v : ℕ} {x : State} {y : List ℕ} → wellFormed s ≡ true → s .next ≤ 1 → 89 ≤ length buffer → v ≡ ticksOf (s .settings .period)
-      → x ≡ put next v (lowered s) → y ≡ bufferOf (ccmOf x) buffer → length (ccmOf x) ≡ 89 → Outcome Sent x y
+      → x ≡ put next v (lowered s) → y ≡ bufferOf (ccmOf x) buffer → length (ccmOf x) ≡ 89 → Outcome (Sent ccmLength) x y
   ends-sent {x = x} w h k v e f n =
       let t = e ∙ ap (λ (u : ℕ). put next u (lowered s)) v ∙ next-last h in
       let written = f ∙ room (ccmOf x) buffer n k ∙ ap (λ (u : State). laid 0 (ccmOf u) buffer) t in
-      numbered (at-sent w h k ∙ ap₂ (λ (u : State) (l : List ℕ). ended Sent u l) (sym t) (sym written))
+      numbered (at-sent w h k ∙ ap₂ (λ (u : State) (l : List ℕ). ended (Sent ccmLength) u l) (sym t) (sym written))

@@ -1,6 +1,6 @@
 -- The statement of specs/Tick.antt. Assumes nothing.
 use Prim.Native.Nat.{ℕ, zero, suc, _-_, _≤_, _<_}
-use mathlib.Core.Path.{_≡_, refl, sym, ap, _∙_}
+use mathlib.Core.Path.{_≡_, refl, sym, ap, _∙_, subst}
 use mathlib.Core.Bool.{true, false, false≢true}
 use mathlib.Core.List.{List, [], _∷_, map}
 use mathlib.Core.Logic.{⊎-elim}
@@ -8,6 +8,8 @@ use native.Mathlib.Omega.{arith}
 use lib.Dec.{ltb, eqb}
 use lib.ListN.{length, getD}
 use borrow.Author.Tests.{ltb-true, ltb-false, eqb-false}
+use Rattle.base_laws.specs.Ended.{Ended, ended}
+use Rattle.base_laws.proofs.Ended.{answer-is, buffer-is, state-is}
 use Rattle.base_laws.specs.Lists.{laid}
 use Rattle.base_laws.proofs.Tests.{known}
 use Rattle.base_period.specs.Periods.{ticksOf}
@@ -15,10 +17,11 @@ use Rattle.base_period.proofs.Laws.{period-laws}
 use Rattle.state_view.specs.State.{State}
 use Rattle.state_view.specs.WellFormed.{WellFormed, wellFormed}
 use Rattle.state_view.proofs.Rules.{well-formed-is}
+use Rattle.message_ccm.specs.Continuity.{ccmLength}
 use Rattle.call_tick_ccm.specs.Ccm.{ccmOf}
 use Rattle.call_send_answer.specs.declared.TickAnswer.{TickAnswer}
 use Rattle.call_send_answer.specs.declared.TickAnswer.the-variants.{NotWellFormed, NoRoom, Quiet, Sent}
-use Rattle.call_tick.specs.Tick.{ticksLeft, nextOf, tickedOf, Ticked, ended, tickOf, Ticks}
+use Rattle.call_tick.specs.Tick.{ticksLeft, nextOf, tickedOf, tickOf, Ticks}
 use Rattle.call_send_answer.specs.Told.{tickTold}
 use Rattle.call_tick.proofs.Ended.{agree, at-2, at-quiet, at-3, at-sent}
 
@@ -80,7 +83,7 @@ data Case (s : State) (buffer : List ℕ) : Type 0 where
   bad : (WellFormed s → ⊥) → tickOf s buffer ≡ ended NotWellFormed s buffer → Case s buffer
   goes-on : WellFormed s → 1 < s .next → tickOf s buffer ≡ ended Quiet (tickedOf s) buffer → Case s buffer
   short : WellFormed s → s .next ≡ 1 → length buffer < 89 → tickOf s buffer ≡ ended NoRoom s buffer → Case s buffer
-  sends : WellFormed s → s .next ≡ 1 → 89 ≤ length buffer → tickOf s buffer ≡ ended Sent (tickedOf s) (laid 0 (ccmOf (tickedOf s)) buffer) → Case s buffer
+  sends : WellFormed s → s .next ≡ 1 → 89 ≤ length buffer → tickOf s buffer ≡ ended (Sent ccmLength) (tickedOf s) (laid 0 (ccmOf (tickedOf s)) buffer) → Case s buffer
 
 most : {n : ℕ} → n ≡ 1 → n ≤ 1
 most e = omega arith
@@ -118,15 +121,15 @@ numbered : TickAnswer → ℕ
 numbered NotWellFormed = 2
 numbered NoRoom = 3
 numbered Quiet = 0
-numbered Sent = 1
+numbered (Sent n) = 1
 
 module _ (s : State) (buffer : List ℕ) where
-  abbrev o : Ticked
+  abbrev o : Ended State TickAnswer
   o = tickOf s buffer
 
   -- an outcome with another answer is none
-  not-it : {x : Ticked} {n : ℕ} → o ≡ x → numbered (o .answer) ≡ n → eqb (numbered (x .answer)) n ≡ false → ⊥
-  not-it {x} {n} e a f = eqb-false (numbered (x .answer)) n f (sym (ap (λ (t : Ticked). numbered (t .answer)) e) ∙ a)
+  not-it : {x : Ended State TickAnswer} {n : ℕ} → o ≡ x → numbered (o .answer) ≡ n → eqb (numbered (x .answer)) n ≡ false → ⊥
+  not-it {x} {n} e a f = eqb-false (numbered (x .answer)) n f (sym (ap (λ (t : Ended State TickAnswer). numbered (t .answer)) e) ∙ a)
 
   is-2 : Case s buffer → numbered (o .answer) ≡ 2 → WellFormed s → ⊥
   unfolding numbered
@@ -157,9 +160,6 @@ module _ (s : State) (buffer : List ℕ) where
   is-sent (sends v h k e) a = (v, h, k)
 
   -- the other way round
-  answer-is : {x : Ticked} → o ≡ x → o .answer ≡ x .answer
-  answer-is e = ap (λ (t : Ticked). t .answer) e
-
   not-well : (WellFormed s → ⊥) → wellFormed s ≡ false
   not-well n = ⊎-elim (λ t. absurd (n (well-formed-is .well-formed-is s .0 t))) (λ f. f) (known (wellFormed s))
 
@@ -175,14 +175,14 @@ module _ (s : State) (buffer : List ℕ) where
   stays (sends v h k e) w = rw e (ticked-well s w)
 
   -- the refusal, by an equation for the whole outcome
-  refusal-of : {x : Ticked} → o ≡ x → tickTold (o .answer) .refusal ≡ tickTold (x .answer) .refusal
-  refusal-of e = ap (λ (t : Ticked). tickTold (t .answer) .refusal) e
+  refusal-of : {x : Ended State TickAnswer} → o ≡ x → tickTold (o .answer) .refusal ≡ tickTold (x .answer) .refusal
+  refusal-of e = ap (λ (t : Ended State TickAnswer). tickTold (t .answer) .refusal) e
 
   refused : Case s buffer → (tickTold (o .answer) .refusal ≡ 0 → ⊥) → (o .state ≡ s) × (o .buffer ≡ buffer)
   unfolding tickTold
-  refused (bad n e) r = (ap (λ (t : Ticked). t .state) e, ap (λ (t : Ticked). t .buffer) e)
+  refused (bad n e) r = (state-is e, buffer-is e)
   refused (goes-on v h e) r = absurd (r (refusal-of e))
-  refused (short v h k e) r = (ap (λ (t : Ticked). t .state) e, ap (λ (t : Ticked). t .buffer) e)
+  refused (short v h k e) r = (state-is e, buffer-is e)
   refused (sends v h k e) r = absurd (r (refusal-of e))
 
   enough : Case s buffer → WellFormed s → 89 ≤ length buffer → tickTold (o .answer) .refusal ≡ 0
@@ -195,38 +195,49 @@ module _ (s : State) (buffer : List ℕ) where
   passes : Case s buffer → tickTold (o .answer) .refusal ≡ 0 → o .state ≡ tickedOf s
   unfolding tickTold
   passes (bad n e) r = absurd (not-zero (refusal-of e) r)
-  passes (goes-on v h e) r = ap (λ (t : Ticked). t .state) e
+  passes (goes-on v h e) r = state-is e
   passes (short v h k e) r = absurd (not-zero (refusal-of e) r)
-  passes (sends v h k e) r = ap (λ (t : Ticked). t .state) e
+  passes (sends v h k e) r = state-is e
 
   writes : Case s buffer → numbered (o .answer) ≡ 1 → o .buffer ≡ laid 0 (ccmOf (tickedOf s)) buffer
   unfolding numbered
   writes (bad n e) a = absurd (not-it e a refl)
   writes (goes-on v h e) a = absurd (not-it e a refl)
   writes (short v h k e) a = absurd (not-it e a refl)
-  writes (sends v h k e) a = ap (λ (t : Ticked). t .buffer) e
+  writes (sends v h k e) a = buffer-is e
 
-  writes-none : Case s buffer → (o .answer ≡ Sent → ⊥) → o .buffer ≡ buffer
-  writes-none (bad n e) a = ap (λ (t : Ticked). t .buffer) e
-  writes-none (goes-on v h e) a = ap (λ (t : Ticked). t .buffer) e
-  writes-none (short v h k e) a = ap (λ (t : Ticked). t .buffer) e
-  writes-none (sends v h k e) a = absurd (a (ap (λ (t : Ticked). t .answer) e))
+  writes-none : Case s buffer → (o .answer ≡ Sent ccmLength → ⊥) → o .buffer ≡ buffer
+  writes-none (bad n e) a = buffer-is e
+  writes-none (goes-on v h e) a = buffer-is e
+  writes-none (short v h k e) a = buffer-is e
+  writes-none (sends v h k e) a = absurd (a (answer-is e))
 
   -- a part that neither lowering nor the next CCM touches
   untouched : {A : Type 0} (part : State → A) → part (tickedOf s) ≡ part s → Case s buffer → part (o .state) ≡ part s
-  untouched part h (bad n e) = ap (λ (t : Ticked). part (t .state)) e
-  untouched part h (goes-on v i e) = ap (λ (t : Ticked). part (t .state)) e ∙ h
-  untouched part h (short v i k e) = ap (λ (t : Ticked). part (t .state)) e
-  untouched part h (sends v i k e) = ap (λ (t : Ticked). part (t .state)) e ∙ h
+  untouched part h (bad n e) = ap (λ (t : Ended State TickAnswer). part (t .state)) e
+  untouched part h (goes-on v i e) = ap (λ (t : Ended State TickAnswer). part (t .state)) e ∙ h
+  untouched part h (short v i k e) = ap (λ (t : Ended State TickAnswer). part (t .state)) e
+  untouched part h (sends v i k e) = ap (λ (t : Ended State TickAnswer). part (t .state)) e ∙ h
+
+-- a tick has four answers and no other, so what holds of the four holds of each
+module _ (P : TickAnswer → Type 0) (p2 : P NotWellFormed) (quiet : P Quiet) (p3 : P NoRoom) (sent : P (Sent ccmLength)) (s : State) (buffer : List ℕ) where
+  holds : Case s buffer → P (tickOf s buffer .answer)
+  holds (bad n e) = subst P (sym (answer-is e)) p2
+  holds (goes-on v h e) = subst P (sym (answer-is e)) quiet
+  holds (short v h k e) = subst P (sym (answer-is e)) p3
+  holds (sends v h k e) = subst P (sym (answer-is e)) sent
+
+  pub of-four : P (tickOf s buffer .answer)
+  of-four = holds (cases s buffer)
 
 pub ticks : Ticks
 unfolding numbered
 ticks = record {
   stays = λ s b. stays s b (cases s b);
-  refuses-2 = λ s b. (λ a. is-2 s b (cases s b) (ap numbered a), λ n. answer-is s b (at-2 s b (not-well s b n)));
-  refuses-3 = λ s b. (λ a. is-3 s b (cases s b) (ap numbered a), λ h. answer-is s b (at-3 s b (is-well s b (h .0)) (most (h .1)) (h .2)));
-  quiet = λ s b. (λ a. is-quiet s b (cases s b) (ap numbered a), λ h. answer-is s b (at-quiet s b (is-well s b (h .0)) (h .1)));
-  sends = λ s b. (λ a. is-sent s b (cases s b) (ap numbered a), λ h. answer-is s b (at-sent s b (is-well s b (h .0)) (most (h .1)) (h .2)));
+  refuses-2 = λ s b. (λ a. is-2 s b (cases s b) (ap numbered a), λ n. answer-is (at-2 s b (not-well s b n)));
+  refuses-3 = λ s b. (λ a. is-3 s b (cases s b) (ap numbered a), λ h. answer-is (at-3 s b (is-well s b (h .0)) (most (h .1)) (h .2)));
+  quiet = λ s b. (λ a. is-quiet s b (cases s b) (ap numbered a), λ h. answer-is (at-quiet s b (is-well s b (h .0)) (h .1)));
+  sends = λ s b. (λ a. is-sent s b (cases s b) (ap numbered a), λ h. answer-is (at-sent s b (is-well s b (h .0)) (most (h .1)) (h .2)));
   refused = λ s b. refused s b (cases s b);
   enough = λ s b. enough s b (cases s b);
   passes = λ s b. passes s b (cases s b);

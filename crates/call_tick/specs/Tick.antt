@@ -9,13 +9,15 @@ use lib.Dec.{ltb}
 use lib.ListN.{length}
 use Rattle.base_laws.specs.Tests.{choose}
 use Rattle.base_laws.specs.Lists.{laid}
+use Rattle.base_laws.specs.Ended.{Ended, ended}
 use Rattle.base_period.specs.Periods.{ticksOf}
 use Rattle.state_view.specs.State.{State}
 use Rattle.state_view.specs.WellFormed.{WellFormed, wellFormed}
 use Rattle.state_view.specs.Changed.{next, put, lowered}
 use Rattle.message_parts.specs.declared.parts.WrittenTold.{WrittenTold}
 use Rattle.message_parts.specs.Buffer.{numbers}
-use Rattle.call_send_answer.specs.Told.{ccmLength, tickTold}
+use Rattle.message_ccm.specs.Continuity.{ccmLength}
+use Rattle.call_send_answer.specs.Told.{tickTold}
 use Rattle.call_tick_ccm.specs.Ccm.{ccmOf}
 use Rattle.call_send_answer.specs.declared.TickAnswer.{TickAnswer}
 use Rattle.call_send_answer.specs.declared.TickAnswer.the-variants.{NotWellFormed, NoRoom, Quiet, Sent}
@@ -36,25 +38,15 @@ tickedOf s = put next (nextOf s) (lowered s)
 
 -- ── the whole outcome ──
 
--- what is answered, and what state and buffer then hold
-pub record Ticked : Type 0 where
-  pub answer : TickAnswer
-  pub state : State
-  pub buffer : List ℕ
-
--- the three by name
-abbrev pub ended : TickAnswer → State → List ℕ → Ticked
-ended answer state buffer = record { answer = answer; state = state; buffer = buffer }
-
 -- refusal 2; nothing to send; refusal 3, and the tick has not passed; a CCM of the state after, laid over the buffer's first octets
-unfoldable pub tickOf : State → List ℕ → Ticked
+unfoldable pub tickOf : State → List ℕ → Ended State TickAnswer
 tickOf s buffer =
     choose (
     (not (wellFormed s), ended NotWellFormed s buffer)
     ∷ (ticksLeft s, ended Quiet (tickedOf s) buffer)
     ∷ (ltb (length buffer) ccmLength, ended NoRoom s buffer)
     ∷ [])
-    (ended Sent (tickedOf s) (laid 0 (ccmOf (tickedOf s)) buffer))
+    (ended (Sent ccmLength) (tickedOf s) (laid 0 (ccmOf (tickedOf s)) buffer))
 
 -- ── in the paper's numbers ──
 
@@ -76,7 +68,7 @@ pub record Ticks : Type 0 where
   pub refuses-2 : (s : State) (buffer : List ℕ) → (tickOf s buffer .answer ≡ NotWellFormed) ↔ (WellFormed s → ⊥)
   pub refuses-3 : (s : State) (buffer : List ℕ) → (tickOf s buffer .answer ≡ NoRoom) ↔ (WellFormed s × (s .next ≡ 1) × (length buffer < 89))
   pub quiet : (s : State) (buffer : List ℕ) → (tickOf s buffer .answer ≡ Quiet) ↔ (WellFormed s × (1 < s .next))
-  pub sends : (s : State) (buffer : List ℕ) → (tickOf s buffer .answer ≡ Sent) ↔ (WellFormed s × (s .next ≡ 1) × (89 ≤ length buffer))
+  pub sends : (s : State) (buffer : List ℕ) → (tickOf s buffer .answer ≡ Sent ccmLength) ↔ (WellFormed s × (s .next ≡ 1) × (89 ≤ length buffer))
   -- a refused tick leaves state and buffer as they were, whatever they held
   pub refused : (s : State) (buffer : List ℕ) → (tickTold (tickOf s buffer .answer) .refusal ≡ 0 → ⊥) → (tickOf s buffer .state ≡ s) × (tickOf s buffer .buffer ≡ buffer)
   -- a buffer of 89 octets is never refused by a well-formed state
@@ -84,8 +76,8 @@ pub record Ticks : Type 0 where
   -- a tick that is not refused passes
   pub passes : (s : State) (buffer : List ℕ) → tickTold (tickOf s buffer .answer) .refusal ≡ 0 → tickOf s buffer .state ≡ tickedOf s
   -- what is sent is the CCM of the state after, and octets behind it stay; where none is sent the buffer stays
-  pub writes : (s : State) (buffer : List ℕ) → tickOf s buffer .answer ≡ Sent → tickOf s buffer .buffer ≡ laid 0 (ccmOf (tickedOf s)) buffer
-  pub writes-none : (s : State) (buffer : List ℕ) → (tickOf s buffer .answer ≡ Sent → ⊥) → tickOf s buffer .buffer ≡ buffer
+  pub writes : (s : State) (buffer : List ℕ) → tickOf s buffer .answer ≡ Sent ccmLength → tickOf s buffer .buffer ≡ laid 0 (ccmOf (tickedOf s)) buffer
+  pub writes-none : (s : State) (buffer : List ℕ) → (tickOf s buffer .answer ≡ Sent ccmLength → ⊥) → tickOf s buffer .buffer ≡ buffer
   -- no tick touches settings, peers' RDI, service counts and session
   pub settings-stay : (s : State) (buffer : List ℕ) → tickOf s buffer .state .settings ≡ s .settings
   pub rdi-stays : (s : State) (buffer : List ℕ) → tickOf s buffer .state .rdi ≡ s .rdi

@@ -1,31 +1,34 @@
 // A tick: every timer is lowered, and on the last tick of a period a CCM is sent.
 // Where its buffer is too short the tick has not passed.
 ghost use mathlib.Core.Path.{_≡_};
+ghost use Rattle.base_laws.specs.Ended.{ended};
 ghost use Rattle.state_view.specs.State.{before, afterTick};
 ghost use Rattle.state_places.specs.Stored.{Whole};
 ghost use Rattle.call_send_answer.specs.Told.{tickTold};
-ghost use Rattle.call_tick.specs.Tick.{ended, tickOf, numbersOf};
+ghost use Rattle.call_tick.specs.Tick.{tickOf, numbersOf};
 use base_period::ticks_of;
 use call_send_answer::TickAnswer;
 use call_tick_ccm::write_own_ccm;
 use call_tick_lower::pass_tick;
-use state_settings::PEERS;
+use message_ccm::CCM_LENGTH;
+use state_settings::Names;
 use state_settings::PERIOD;
+use state_settings::Set;
+use state_settings::Slots;
 use state_view::NEXT;
+use state_view::Run;
+use state_view::Totals;
 use state_well_formed::is_well_formed;
-
-// How long a CCM is.
-const CCM_LENGTH: usize = 89;
 
 // Lets a tick pass, and on the last of a period writes a CCM with the conditions that stand after it.
 pub fn tick(
-    set: &[u32; 4],
-    names: &[u8; 60],
-    ids: &[u32; PEERS],
-    timers: &mut [u32; PEERS],
-    rdi: &[u32; PEERS],
-    run: &mut [u32; 15],
-    totals: &[i64; 2],
+    set: &Set,
+    names: &Names,
+    ids: &Slots,
+    timers: &mut Slots,
+    rdi: &Slots,
+    run: &mut Run,
+    totals: &Totals,
     out: &mut [u8],
 ) -> TickAnswer
     ensures { λ r. ⌜ (ended r (afterTick set names ids timers rdi run totals) (now (out .exit)) ≡ tickOf (before set names ids timers rdi run totals) (now (out .entry)))
@@ -58,5 +61,5 @@ pub fn tick(
     );
     // the answer is known: there is room
     let _written = write_own_ccm(set, names, ids, timers, rdi, run, totals, out);
-    TickAnswer::Sent
+    TickAnswer::Sent(CCM_LENGTH)
 }

@@ -3,32 +3,37 @@ ghost use mathlib.Core.Path.{_≡_};
 ghost use lib.ListN.{length};
 ghost use Rattle.state_view.specs.State.{before};
 ghost use Rattle.message_parts.specs.Buffer.{writtenOf, bufferOf, told, numbersOf};
+ghost use Rattle.message_ccm.specs.Continuity.{ccmLength};
 ghost use Rattle.call_tick_ccm.specs.Ccm.{ccmOf};
 use message_ccm::CcmValues;
 use message_ccm::write_ccm;
 use message_parts::parts::Written;
 use state_settings::LEVEL;
 use state_settings::MEP;
-use state_settings::PEERS;
+use state_settings::Names;
 use state_settings::PERIOD;
+use state_settings::Set;
+use state_settings::Slots;
 use state_standing::any_stands;
 use state_standing::flag_of;
+use state_view::Run;
+use state_view::Totals;
 
 // Writes the CCM of a state.
 pub fn write_own_ccm(
-    set: &[u32; 4],
-    names: &[u8; 60],
-    ids: &[u32; PEERS],
-    timers: &[u32; PEERS],
-    rdi: &[u32; PEERS],
-    run: &[u32; 15],
-    totals: &[i64; 2],
+    set: &Set,
+    names: &Names,
+    ids: &Slots,
+    timers: &Slots,
+    rdi: &Slots,
+    run: &Run,
+    totals: &Totals,
     out: &mut [u8],
 ) -> Written
     ensures { λ r. ⌜ (r ≡ writtenOf (ccmOf (before set names ids timers rdi run totals)) (now (out .entry)))
         × (told r ≡ numbersOf (ccmOf (before set names ids timers rdi run totals)) (now (out .entry))) ⌝ }
     ensures { λ _. ⌜ (now (out .exit) ≡ bufferOf (ccmOf (before set names ids timers rdi run totals)) (now (out .entry)))
-        × (length (ccmOf (before set names ids timers rdi run totals)) ≡ 89) ⌝ }
+        × (length (ccmOf (before set names ids timers rdi run totals)) ≡ ccmLength) ⌝ }
 {
     let stands = any_stands(set, names, ids, timers, rdi, run, totals);
     let ccm = CcmValues {

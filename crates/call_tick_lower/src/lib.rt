@@ -6,8 +6,12 @@ ghost use Rattle.base_laws.specs.Lists.{onFirst};
 ghost use Rattle.state_view.specs.State.{before, afterTick};
 ghost use Rattle.state_view.specs.Changed.{next, put, lowered};
 ghost use Rattle.state_places.specs.Stored.{Whole};
-use state_settings::PEERS;
+use state_settings::Names;
+use state_settings::Set;
+use state_settings::Slots;
 use state_view::NEXT;
+use state_view::Run;
+use state_view::Totals;
 
 // How many running words are timers: they stand first.
 const TIMERS: usize = 6;
@@ -35,7 +39,7 @@ fn lower_peers(timers: &mut [u32])
 }
 
 // Lowers the timers among the running words.
-fn lower_running(run: &mut [u32; 15])
+fn lower_running(run: &mut Run)
     ensures { λ _. ⌜ now (run .exit) ≡ onFirst (λ t. t - 1) 6 (now (run .entry)) ⌝ }
 {
     let mut i: usize = 0;
@@ -47,16 +51,17 @@ fn lower_running(run: &mut [u32; 15])
 
 // Lets a tick pass: every timer is lowered, and so many ticks are left to the next CCM.
 pub fn pass_tick(
-    set: &[u32; 4],
-    names: &[u8; 60],
-    ids: &[u32; PEERS],
-    timers: &mut [u32; PEERS],
-    rdi: &[u32; PEERS],
-    run: &mut [u32; 15],
-    totals: &[i64; 2],
+    set: &Set,
+    names: &Names,
+    ids: &Slots,
+    timers: &mut Slots,
+    rdi: &Slots,
+    run: &mut Run,
+    totals: &Totals,
     left: u32,
 )
-    ensures { λ _. ⌜ afterTick set names ids timers rdi run totals ≡ put next left (lowered (before set names ids timers rdi run totals)) ⌝ }
+    ensures { λ _. ⌜ afterTick set names ids timers rdi run totals ≡
+        put next left (lowered (before set names ids timers rdi run totals)) ⌝ }
     ensures { λ _. ⌜ Whole (now (run .exit)) (now (totals .entry)) ⌝ }
 {
     // a view of an array tells its length, and costs nothing

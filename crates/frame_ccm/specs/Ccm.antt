@@ -6,7 +6,7 @@ use mathlib.Core.List.{List, []}
 use lib.Dec.{eqb}
 use Rattle.base_laws.specs.Lists.{part}
 use Rattle.base_bits.specs.Fields.{mepId}
-use Rattle.base_octets.specs.Numbers.{number, bigEndian}
+use Rattle.base_numbers.specs.Numbers.{number, bigEndian}
 use Rattle.frame_head.specs.Head.{word, pduOf, flagsOf, behindHead}
 use Rattle.frame_ccm.specs.declared.CcmFields.{CcmFields}
 use Rattle.frame_message.specs.Message.{periodCode}

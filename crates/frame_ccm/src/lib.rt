@@ -6,9 +6,9 @@ ghost use Rattle.frame_ccm.specs.Ccm.{ccmOf, megOf, megPlace};
 use base_bits::mep_id_of;
 use base_bits::period_code_of;
 use base_bits::rdi_of;
-use base_octets::numbers::read_big;
-use frame_head::head::HEAD_LENGTH;
-use frame_head::head::pdu_of;
+use base_numbers::read_big;
+use frame_head::HEAD_LENGTH;
+use frame_head::pdu_of;
 use frame_message::good_opcode;
 
 // A CCM's fields beside its MEG ID; the counts are TxFCf, RxFCb and TxFCb.

@@ -7,7 +7,7 @@ use mathlib.Core.Bool.{Bool, cond, _&&_}
 use lib.Dec.{eqb, ltb, leb}
 use lib.ListN.{length, getD, drop}
 use Rattle.base_laws.specs.Lists.{part}
-use Rattle.base_octets.specs.Numbers.{number, bigEndian}
+use Rattle.base_numbers.specs.Numbers.{number, bigEndian}
 
 -- ── the frame ──
 

@@ -1,3 +1,68 @@
-// A frame's head: where its PDU stands.
-// Nothing here knows of messages, settings or state, and no function asks anything of its caller.
-pub mod head;
+// A frame's head: its two addresses, where its PDU stands, and the PDU's level and version. Each function answers for any octets.
+// Nothing here knows of messages, settings or state. Every place behind the head is a place of the PDU.
+ghost use mathlib.Core.Path.{_≡_};
+ghost use denote.Ref.{ptr};
+ghost use Rattle.frame_head.specs.Head.{headLength, destinationOf, sourceOf, pduOf, placeOrStart, levelOf, versionOf};
+ghost use Rattle.frame_head.specs.Addresses.{inHead};
+use base_bits::level_of;
+use base_bits::version_of;
+
+// The octets before the PDU: destination 6, source 6, EtherType 2.
+pub const HEAD_LENGTH: usize = 14;
+
+// The longest frame, without its check sequence.
+pub const LONGEST: usize = 1514;
+
+// The destination, as that part of the frame; empty, at the frame's start, where the frame is shorter than its head.
+pub fn destination(frame: &[u8]) -> &[u8]
+    ensures { λ r. ⌜ (now r ≡ inHead (destinationOf (now (frame .entry))) (now (frame .entry)))
+        × (ptr r ≡ placeOrStart 0 (ptr (frame .entry)) (now (frame .entry))) ⌝ }
+{
+    if frame.len() < HEAD_LENGTH {
+        return &frame[..0];
+    }
+    &frame[0..6]
+}
+
+// The source, in the same way.
+pub fn source(frame: &[u8]) -> &[u8]
+    ensures { λ r. ⌜ (now r ≡ inHead (sourceOf (now (frame .entry))) (now (frame .entry)))
+        × (ptr r ≡ placeOrStart 6 (ptr (frame .entry)) (now (frame .entry))) ⌝ }
+{
+    if frame.len() < HEAD_LENGTH {
+        return &frame[..0];
+    }
+    &frame[6..12]
+}
+
+// The PDU, in the same way.
+pub fn pdu_of(frame: &[u8]) -> &[u8]
+    ensures { λ r. ⌜ (now r ≡ pduOf (now (frame .entry))) × (ptr r ≡ placeOrStart headLength (ptr (frame .entry)) (now (frame .entry))) ⌝ }
+{
+    if frame.len() < HEAD_LENGTH {
+        return &frame[..0];
+    }
+    &frame[HEAD_LENGTH..]
+}
+
+// The level, in the first octet of the PDU; 0 where there is no PDU.
+pub fn level(frame: &[u8]) -> u32
+    ensures { λ r. ⌜ r ≡ levelOf (pduOf (now (frame .entry))) ⌝ }
+{
+    let pdu = pdu_of(frame);
+    if pdu.len() == 0 {
+        return 0;
+    }
+    level_of(pdu[0])
+}
+
+// The version, in the same octet; 0 where there is no PDU.
+pub fn version(frame: &[u8]) -> u32
+    ensures { λ r. ⌜ r ≡ versionOf (pduOf (now (frame .entry))) ⌝ }
+{
+    let pdu = pdu_of(frame);
+    if pdu.len() == 0 {
+        return 0;
+    }
+    version_of(pdu[0])
+}

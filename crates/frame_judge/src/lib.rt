@@ -2,9 +2,9 @@
 // It asks nothing of its caller.
 ghost use mathlib.Core.Path.{_≡_};
 ghost use Rattle.frame_judge.specs.Judge.{judgePdu, judge};
-use base_octets::numbers::read_big;
-use frame_head::head::HEAD_LENGTH;
-use frame_head::head::LONGEST;
+use base_numbers::read_big;
+use frame_head::HEAD_LENGTH;
+use frame_head::LONGEST;
 use frame_opcodes::is_known;
 use frame_opcodes::rule_of;
 use frame_reader_answer::Bad;

@@ -3,8 +3,8 @@
 ghost use mathlib.Core.Path.{_≡_};
 ghost use Rattle.frame_loopback_alarm.specs.Fixed.{transactionOf, alarmOf};
 use base_bits::period_code_of;
-use base_octets::numbers::read_big;
-use frame_head::head::pdu_of;
+use base_numbers::read_big;
+use frame_head::pdu_of;
 use frame_message::good_opcode;
 
 // The transaction of an LBM or LBR.

@@ -2,9 +2,9 @@
 // All are 0 where the frame is bad or another message; `frame_message::message_answer` tells which.
 ghost use mathlib.Core.Path.{_≡_};
 ghost use Rattle.frame_measures.specs.Measures.{lossOf, delayOf};
-use base_octets::numbers::read_big;
+use base_numbers::read_big;
 use base_stamp::Stamp;
-use frame_head::head::pdu_of;
+use frame_head::pdu_of;
 use frame_message::good_opcode;
 
 // The counts of an LMM or LMR: TxFCf, RxFCf and TxFCb.

@@ -8,7 +8,7 @@ use lib.ListN.{length, drop, length-append}
 use lib.Seq.{drop-at}
 use Rattle.base_laws.specs.Lists.{part}
 use Rattle.base_laws.proofs.Lists.{part-here}
-use Rattle.base_octets.specs.Numbers.{number, numberLowestFirst, bigEndian}
+use Rattle.base_numbers.specs.Numbers.{number, numberLowestFirst, bigEndian}
 use Rattle.frame_opcodes.specs.Opcodes.{ruleOf, known}
 use Rattle.frame_head.specs.Head.{etherTypeOf, pduOf, opcodeOf, offsetOf}
 use Rattle.frame_message.specs.Good.{Headed, tlvsOf}

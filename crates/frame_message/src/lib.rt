@@ -5,7 +5,7 @@ ghost use Rattle.frame_message.specs.Message.{codeGood, judgedOf, messag
 ghost use Rattle.frame_message.specs.Told.{numbersOf, goodOpcode};
 ghost use Rattle.frame_message_answer.specs.Told.{told};
 use base_bits::period_code_of;
-use frame_head::head::pdu_of;
+use frame_head::pdu_of;
 use frame_message_answer::MessageAnswer;
 use frame_message_answer::tell;
 use frame_opcodes::Handler;

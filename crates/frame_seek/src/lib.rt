@@ -1,7 +1,7 @@
 // The search for a TLV in a frame, and D5: where the value of the first one of a type stands, or why it cannot be read.
 ghost use mathlib.Core.Path.{_≡_};
 ghost use Rattle.frame_seek.specs.Seek.{isCut, seekOf, Within};
-use frame_head::head::HEAD_LENGTH;
+use frame_head::HEAD_LENGTH;
 use frame_judge::Head;
 use frame_judge::judge_frame;
 use frame_reader_answer::Bad;

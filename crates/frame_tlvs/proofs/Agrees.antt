@@ -15,8 +15,10 @@ use lib.Seq.{drop-cons, getD-drop, drop-drop, drop-at}
 use Rattle.base_laws.specs.Lists.{part}
 use Rattle.base_laws.proofs.Tests.{known}
 use Rattle.base_laws.proofs.Lists.{part-drop, drop-part, part-here, length-part}
-use Rattle.base_octets.specs.Numbers.{number, inOctets, bigEndian, Octets}
-use Rattle.base_octets.proofs.Laws.{length-octets, number-here, number-below, part-octets, read-again}
+use Rattle.base_octets.specs.Octets.{Octets}
+use Rattle.base_numbers.specs.Numbers.{number, inOctets, bigEndian}
+use Rattle.base_octets.proofs.Octets.{part-octets}
+use Rattle.base_numbers.proofs.Laws.{length-octets, number-here, number-below, read-again}
 use Rattle.frame_tlvs.specs.declared.Place.{Place}
 use Rattle.frame_tlvs.specs.declared.Place.the-variants.{End, Cut}
 use Rattle.frame_tlvs.specs.Tlvs.{Tlvs, end, one, firstOf, walkFrom, valueAt, WalkAgrees}

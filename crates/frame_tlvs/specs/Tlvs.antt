@@ -8,7 +8,8 @@ use mathlib.Core.Bool.{cond}
 use lib.Dec.{ltb, eqb}
 use lib.ListN.{length, drop}
 use Rattle.base_laws.specs.Lists.{part}
-use Rattle.base_octets.specs.Numbers.{number, inOctets, bigEndian, Octets}
+use Rattle.base_octets.specs.Octets.{Octets}
+use Rattle.base_numbers.specs.Numbers.{number, inOctets, bigEndian}
 use Rattle.frame_tlvs.specs.declared.Place.{Place}
 use Rattle.frame_tlvs.specs.declared.Place.the-variants.{End, Found, Cut}
 

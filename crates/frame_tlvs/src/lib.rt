@@ -2,7 +2,7 @@
 // It knows of no frame, no opcode and no state, and asks nothing of its caller.
 ghost use mathlib.Core.Path.{_≡_};
 ghost use Rattle.frame_tlvs.specs.Tlvs.{walkFrom, Inside};
-use base_octets::numbers::read_big;
+use base_numbers::read_big;
 
 // Where a walk over the TLVs stops: at type 0, at the wanted type (its value's start and length), or at a cut.
 pub enum Place {

@@ -11,10 +11,10 @@ use Rattle.frame_reader.specs.Reader.{answerOf}
 use Rattle.frame_reader_answer.specs.Told.{badOf, told as reader-told}
 use Rattle.frame_reader.specs.Numbers.{numbersOf}
 use Rattle.frame_reader.proofs.Numbers.{agree}
-use Rattle.frame_value_answer.specs.declared.ValueAnswer.{ValueAnswer}
-use Rattle.frame_value_answer.specs.Told.{told}
+use Rattle.frame_value.specs.declared.ValueAnswer.{ValueAnswer}
+use Rattle.frame_value.specs.Told.{told}
 use Rattle.frame_value.specs.Values.{outcomeOf}
-use Rattle.frame_value.specs.Told.{withHolds}
+use Rattle.frame_value.specs.Numbers.{withHolds}
 
 pub tells : (a : TlvAnswer) (holds : Bool) → told (outcomeOf a holds) ≡ withHolds (reader-told a) holds
 unfolding told outcomeOf reader-told badOf

@@ -1,22 +1,21 @@
--- The paper's numbers for a frame and what its value is held to. Definitions only.
+-- The paper's numbers for each case of an answer on a value. Definitions and the statement only.
 use Prim.Native.Nat.{ℕ}
-use mathlib.Core.List.{List}
-use mathlib.Core.Bool.{Bool, _&&_, cond}
-use lib.Dec.{eqb}
-use Rattle.base_laws.specs.Lists.{same}
-use Rattle.frame_reader_answer.specs.declared.TlvTold.{TlvTold}
-use Rattle.frame_reader.specs.Reader.{valueOf}
-use Rattle.frame_reader.specs.Numbers.{numbersOf}
-use Rattle.frame_value_answer.specs.declared.ValueTold.{ValueTold}
-use Rattle.frame_value_answer.specs.Told.{numbers}
-use Rattle.frame_value.specs.Values.{dataType, testType, zeroPattern}
+use mathlib.Core.Path.{_≡_}
+use Rattle.frame_reader_answer.specs.Told.{badOf}
+use Rattle.frame_value.specs.declared.ValueAnswer.{ValueAnswer}
+use Rattle.frame_value.specs.declared.ValueAnswer.the-variants.{Holds, Differs, NoSuch, Bad}
+use Rattle.frame_value.specs.declared.ValueTold.{ValueTold}
 
--- the reader's numbers, and 1 where there is a value and it is what was asked for
-abbrev pub withHolds : TlvTold → Bool → ValueTold
-withHolds t holds = numbers (t .refusal) (t .drop) (t .value) (cond (eqb (t .value) 1 && holds) 1 0)
+abbrev pub numbers : ℕ → ℕ → ℕ → ℕ → ValueTold
+numbers refusal drop value holds = record { refusal = refusal; drop = drop; value = value; holds = holds }
 
-abbrev pub sameNumbers : List ℕ → List ℕ → ValueTold
-sameNumbers f octets = withHolds (numbersOf f dataType) (same (valueOf f dataType) octets)
+unfoldable pub told : ValueAnswer → ValueTold
+told Holds = numbers 0 0 1 1
+told Differs = numbers 0 0 1 0
+told NoSuch = numbers 0 0 0 0
+told (Bad b) = numbers (badOf b .refusal) (badOf b .drop) 0 0
 
-abbrev pub zeroNumbers : List ℕ → ValueTold
-zeroNumbers f = withHolds (numbersOf f testType) (zeroPattern (valueOf f testType))
+-- what is said of every answer
+pub record ValueNumbers : Type 0 where
+  -- no two are told alike
+  pub apart : (a b : ValueAnswer) → told a ≡ told b → a ≡ b

@@ -10,8 +10,8 @@ use Rattle.base_laws.specs.Lists.{every, same}
 use Rattle.frame_reader_answer.specs.declared.TlvAnswer.{TlvAnswer}
 use Rattle.frame_reader_answer.specs.declared.TlvAnswer.the-variants as tlv
 use Rattle.frame_reader.specs.Reader.{valueOf, answerOf}
-use Rattle.frame_value_answer.specs.declared.ValueAnswer.{ValueAnswer}
-use Rattle.frame_value_answer.specs.declared.ValueAnswer.the-variants.{Holds, Differs, NoSuch, Bad}
+use Rattle.frame_value.specs.declared.ValueAnswer.{ValueAnswer}
+use Rattle.frame_value.specs.declared.ValueAnswer.the-variants.{Holds, Differs, NoSuch, Bad}
 
 -- the types of the two TLVs
 abbrev pub dataType : ℕ

@@ -1,14 +1,71 @@
-// What the value of a TLV holds: the octets of a data TLV, the zeros of a test TLV.
+// What the value of a TLV holds: the octets of a data TLV, the zeros of a test TLV; the answer on it, and the same in the paper's numbers.
 // The value is the part of the frame that the reader hands back; nothing is copied.
 ghost use mathlib.Core.Path.{_≡_};
-ghost use Rattle.frame_value_answer.specs.Told.{told};
+ghost use Rattle.frame_value.specs.Told.{told};
 ghost use Rattle.frame_value.specs.Values.{zeroPattern, outcomeOf, sameData, zeroTest};
-ghost use Rattle.frame_value.specs.Told.{sameNumbers, zeroNumbers};
+ghost use Rattle.frame_value.specs.Numbers.{sameNumbers, zeroNumbers};
 use base_compare::same_octets;
 use frame_reader::tlv_answer;
 use frame_reader::tlv_value;
+use frame_reader_answer::Bad;
 use frame_reader_answer::TlvAnswer;
-use frame_value_answer::ValueAnswer;
+use frame_reader_answer::tell as tell_reader;
+
+// What a value was found to be.
+pub enum ValueAnswer {
+    // It is what was asked for.
+    Holds,
+    // It is something else.
+    Differs,
+    // The frame has no such TLV.
+    NoSuch,
+    // The frame cannot be read.
+    Bad(Bad),
+}
+
+// An answer in the paper's numbers: those of the reader, and 1 where the value is what was asked for.
+#[repr(C)]
+pub struct ValueTold {
+    pub refusal: u32,
+    pub drop: u32,
+    pub value: u32,
+    pub holds: u32,
+}
+
+// An answer in the paper's numbers.
+pub fn tell(answer: ValueAnswer) -> ValueTold
+    ensures { λ r. ⌜ r ≡ told answer ⌝ }
+{
+    match answer {
+        ValueAnswer::Holds => ValueTold {
+            refusal: 0,
+            drop: 0,
+            value: 1,
+            holds: 1,
+        },
+        ValueAnswer::Differs => ValueTold {
+            refusal: 0,
+            drop: 0,
+            value: 1,
+            holds: 0,
+        },
+        ValueAnswer::NoSuch => ValueTold {
+            refusal: 0,
+            drop: 0,
+            value: 0,
+            holds: 0,
+        },
+        ValueAnswer::Bad(b) => {
+            let bad = tell_reader(TlvAnswer::Bad(b));
+            ValueTold {
+                refusal: bad.refusal,
+                drop: bad.drop,
+                value: 0,
+                holds: 0,
+            }
+        }
+    }
+}
 
 // Tells whether a test TLV's value is pattern type 0, a null signal without check sequence, and zeros behind it.
 fn zero_pattern(value: &[u8]) -> bool
@@ -43,7 +100,8 @@ fn outcome(answer: TlvAnswer, holds: bool) -> ValueAnswer
 
 // Tells whether the value of the frame's data TLV is these octets.
 pub fn same_data(frame: &[u8], octets: &[u8]) -> ValueAnswer
-    ensures { λ r. ⌜ (r ≡ sameData (now (frame .entry)) (now (octets .entry))) × (told r ≡ sameNumbers (now (frame .entry)) (now (octets .entry))) ⌝ }
+    ensures { λ r. ⌜ (r ≡ sameData (now (frame .entry)) (now (octets .entry)))
+        × (told r ≡ sameNumbers (now (frame .entry)) (now (octets .entry))) ⌝ }
 {
     let same = same_octets(tlv_value(frame, 3), octets);
     outcome(tlv_answer(frame, 3), same)

@@ -4,8 +4,8 @@
 use base_stamp::Stamp;
 use frame_ccm::ccm_fields;
 use frame_ccm::meg_id;
-use frame_level::level;
-use frame_level::version;
+use frame_head::level;
+use frame_head::version;
 use frame_loopback_alarm::alarm_period;
 use frame_loopback_alarm::transaction;
 use frame_measures::delay_fields;

@@ -3,16 +3,21 @@
 // Any content of the memory is a value. What a caller sees to is that the pointers are to memory of these sizes, and that what is written
 // overlaps nothing else that is handed over.
 ghost use mathlib.Core.Path.{_≡_};
+ghost use Rattle.base_laws.specs.Ended.{ended, toldBy};
 ghost use Rattle.state_view.specs.State.{before, after};
 ghost use Rattle.state_places.specs.Stored.{Whole};
 ghost use Rattle.base_stamp.specs.Stamps.{Wire};
+ghost use Rattle.receive_answer.specs.Told.{told};
 ghost use Rattle.receive_frame.specs.Frame.{frameOf};
-ghost use Rattle.receive_frame.specs.Numbers.{numbersOf};
 ghost use Rattle.linkbox_frame.specs.Sides.{sideOf};
 use base_stamp::Stamp;
 use receive_answer::FrameTold;
 use receive_class::Side;
-use state_settings::PEERS;
+use state_settings::Names;
+use state_settings::Set;
+use state_settings::Slots;
+use state_view::Run;
+use state_view::Totals;
 
 // The side that a number of C's names.
 fn side_of(number: u32) -> Side
@@ -28,23 +33,21 @@ fn side_of(number: u32) -> Side
 // A frame from a side; a reply is written into the front of the buffer.
 #[no_mangle]
 pub extern "C" fn linkbox_frame(
-    set: &[u32; 4],
-    names: &[u8; 60],
-    ids: &[u32; PEERS],
-    timers: &mut [u32; PEERS],
-    rdi: &mut [u32; PEERS],
-    run: &mut [u32; 15],
-    totals: &mut [i64; 2],
+    set: &Set,
+    names: &Names,
+    ids: &Slots,
+    timers: &mut Slots,
+    rdi: &mut Slots,
+    run: &mut Run,
+    totals: &mut Totals,
     side: u32,
     frame: &[u8],
     receive: Stamp,
     transmit: Stamp,
     out: &mut [u8],
 ) -> FrameTold
-    ensures { λ r. ⌜ r ≡
-        numbersOf (before set names ids timers rdi run totals) (sideOf side) (now (frame .entry)) receive transmit (now (out .entry)) ⌝ }
-    ensures { λ _. ⌜ (after set names ids timers rdi run totals ≡ frameOf (before set names ids timers rdi run totals) (sideOf side) (now (frame .entry)) receive transmit (now (out .entry)) .state)
-        × (now (out .exit) ≡ frameOf (before set names ids timers rdi run totals) (sideOf side) (now (frame .entry)) receive transmit (now (out .entry)) .buffer) ⌝ }
+    ensures { λ r. ⌜ ended r (after set names ids timers rdi run totals) (now (out .exit)) ≡ toldBy told
+        (frameOf (before set names ids timers rdi run totals) (sideOf side) (now (frame .entry)) receive transmit (now (out .entry))) ⌝ }
     ensures { λ _. ⌜ Whole (now (run .exit)) (now (totals .exit)) ⌝ }
     ensures { λ _. ⌜ Wire receive × Wire transmit ⌝ }
 {

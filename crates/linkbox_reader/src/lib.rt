@@ -21,7 +21,8 @@ pub struct TlvAt {
 
 // An answer of the reader's beside a place and a length.
 fn placed(answer: TlvAnswer, start: usize, length: usize) -> TlvAt
-    ensures { λ r. ⌜ r ≡ record { refusal = tlvTold answer .refusal; drop = tlvTold answer .drop; value = tlvTold answer .value; start = start; length = length } ⌝ }
+    ensures { λ r. ⌜ r ≡
+        record { refusal = tlvTold answer .refusal; drop = tlvTold answer .drop; value = tlvTold answer .value; start = start; length = length } ⌝ }
 {
     let told = frame_reader_answer::tell(answer);
     TlvAt {

@@ -3,10 +3,14 @@
 // Any content of the memory is a value. What a caller sees to is that the pointers are to memory of these sizes, and that what is written
 // overlaps nothing else that is handed over.
 ghost use mathlib.Core.Path.{_≡_};
-ghost use Rattle.state_settings.specs.Settings.{slots, settingsOf, Shaped};
-ghost use Rattle.stored_settings.specs.SettingsRecord.{readSettings, writeSettings, writtenNumbers as settingsNumbers};
-ghost use Rattle.stored_line.specs.Calls.{writeLine, writtenNumbers as lineNumbers, numbersOf as readNumbers};
-use state_settings::PEERS;
+ghost use Rattle.base_laws.specs.Ended.{wrote, toldBy};
+ghost use Rattle.state_settings.specs.Settings.{slots, lentSettings, Shaped};
+ghost use Rattle.stored_record.specs.Writing.{told};
+ghost use Rattle.stored_settings.specs.SettingsRecord.{readSettings, writeSettings};
+ghost use Rattle.stored_line.specs.Calls.{writeLine, numbersOf as readNumbers};
+use state_settings::Names;
+use state_settings::Set;
+use state_settings::Slots;
 use stored_line::LineTold;
 use stored_line::LossLine;
 use stored_record::RecordTold;
@@ -24,12 +28,13 @@ pub extern "C" fn linkbox_read_settings(from: &[u8]) -> SettingsRead
 #[no_mangle]
 pub extern "C" fn linkbox_write_settings(
     into: &mut [u8],
-    set: &[u32; 4],
-    names: &[u8; 60],
-    ids: &[u32; PEERS],
+    set: &Set,
+    names: &Names,
+    ids: &Slots,
 ) -> RecordTold
-    ensures { λ r. ⌜ (r ≡ settingsNumbers (settingsOf (now (set .entry)) (now (names .entry)) (now (ids .entry))) (now (into .entry))) × (now (into .exit) ≡ writeSettings (settingsOf (now (set .entry)) (now (names .entry)) (now (ids .entry))) (now (into .entry)) .buffer) ⌝ }
-    ensures { λ _. ⌜ Shaped slots (settingsOf (now (set .entry)) (now (names .entry)) (now (ids .entry))) ⌝ }
+    ensures { λ r. ⌜ wrote r (now (into .exit)) ≡
+        toldBy told (writeSettings (lentSettings set names ids) (now (into .entry))) ⌝ }
+    ensures { λ _. ⌜ Shaped slots (lentSettings set names ids) ⌝ }
 {
     let answer = stored_settings::write_settings(into, set, names, ids);
     stored_record::tell(answer)
@@ -47,7 +52,7 @@ pub extern "C" fn linkbox_read_line(from: &[u8]) -> LineTold
 // Writes a loss line as a record into the front of the buffer.
 #[no_mangle]
 pub extern "C" fn linkbox_write_line(into: &mut [u8], line: LossLine) -> RecordTold
-    ensures { λ r. ⌜ (r ≡ lineNumbers line (now (into .entry))) × (now (into .exit) ≡ writeLine line (now (into .entry)) .buffer) ⌝ }
+    ensures { λ r. ⌜ wrote r (now (into .exit)) ≡ toldBy told (writeLine line (now (into .entry))) ⌝ }
 {
     let answer = stored_line_calls::write_line(into, line);
     stored_record::tell(answer)

@@ -4,6 +4,7 @@ use mathlib.Core.Path.{_≡_, refl, sym, ap, ap₂, subst, _∙_}
 use mathlib.Core.Bool.{true, false}
 use mathlib.Core.Logic.{⊎-elim}
 use native.Mathlib.Omega.{arith}
+use Rattle.base_laws.proofs.Ended.{answer-is, buffer-is}
 use Rattle.base_laws.specs.Tests.{choose}
 use Rattle.base_laws.proofs.Tests.{known}
 use Rattle.state_settings.specs.Valid.{valid}
@@ -12,7 +13,6 @@ use mathlib.Core.List.{List, []}
 use Prim.Native.Nat.{ℕ}
 use denote.Ref.{now}
 use Rattle.stored_settings_body.specs.declared.SettingsRead.{SettingsRead}
-use Rattle.stored_record.proofs.Writing.{writing}
 use Rattle.stored_line.proofs.Calls.{loss-records}
 use Rattle.stored_settings.specs.SettingsRecord.{bodySize, settingsAt, refusedRead, readSettings, writeSettings}
 use Rattle.stored_record.specs.Record.{isRecord}
@@ -32,10 +32,10 @@ use Rattle.frame_reader_answer.specs.declared.Bad.the-variants as bad
 use Rattle.frame_reader_answer.specs.Told as Reasons
 use Rattle.linkbox_reader.specs.Tlvs.{tlvAt}
 use Rattle.frame_reader.specs.Reader.{partOf, answerAt, answerOf, valueOf}
-use Rattle.paper_records.specs.Records.{RecordTells, RecordLeft, leaving, writeTells, lineTells}
-use Rattle.paper_records.proofs.Records.{records-follow}
-use Rattle.paper_reader.specs.Reader.{readerTells}
-use Rattle.paper_reader.proofs.Reader.{reader-follows}
+use Rattle.paper_beside.specs.Records.{RecordTells, RecordLeft, leaving, writeTells, lineTells}
+use Rattle.paper_beside.proofs.Records.{records-follow}
+use Rattle.paper_beside.specs.Reader.{readerTells}
+use Rattle.paper_beside.proofs.Reader.{reader-follows}
 use Rattle.linkbox_said.specs.Heard.{settingsSays, writeSays, lineSays, tlvSays, writeNumbers, lineNumbers, tlvNumbers}
 use Rattle.linkbox_said.specs.Shipped.{ShippedBeside}
 use Rattle.linkbox_said.proofs.Heard.{write-says, line-says, tlv-says}
@@ -93,17 +93,17 @@ shipped-beside = record {
   read-settings = λ κs a r s p o q.
       (ap (λ (t : SettingsRead). leaving (settingsSays t) []) p ∙ records-follow .ours .follows _ o tt q, unread (now (a .0)) r p);
   write-settings = λ κs a r s p o q.
-      let e = p .0 .0 ∙ sym (writing .agree _ 1 _ _) in
+      let e = answer-is (p .0) in
       let f = records-follow .ours .follows _ o (p .1) q in
-      (ap₂ (λ (x : RecordTells) (b : List ℕ). leaving x b) (ap writeSays e ∙ write-says _) (p .0 .1) ∙ f, e ∙ write-is _ ∙ ap (λ (x : RecordLeft). writeNumbers (x .answer)) f);
+      (ap₂ (λ (x : RecordTells) (b : List ℕ). leaving x b) (ap writeSays e ∙ write-says _) (buffer-is (p .0)) ∙ f, e ∙ write-is _ ∙ ap (λ (x : RecordLeft). writeNumbers (x .answer)) f);
   read-line = λ κs a r s p o q.
       let e = p ∙ sym (loss-records .agree _) in
       let f = records-follow .ours .follows _ o tt q in
       (ap (λ (x : RecordTells). leaving x []) (ap lineSays e ∙ line-says _) ∙ f, e ∙ line-is _ ∙ ap (λ (x : RecordLeft). lineNumbers (x .answer)) f);
   write-line = λ κs a r s p o q.
-      let e = p .0 ∙ sym (writing .agree _ 2 _ _) in
+      let e = answer-is p in
       let f = records-follow .ours .follows _ o tt q in
-      (ap₂ (λ (x : RecordTells) (b : List ℕ). leaving x b) (ap writeSays e ∙ write-says _) (p .1) ∙ f, e ∙ write-is _ ∙ ap (λ (x : RecordLeft). writeNumbers (x .answer)) f);
+      (ap₂ (λ (x : RecordTells) (b : List ℕ). leaving x b) (ap writeSays e ∙ write-says _) (buffer-is p) ∙ f, e ∙ write-is _ ∙ ap (λ (x : RecordLeft). writeNumbers (x .answer)) f);
   tlv = λ κs a r s p w o q.
       let found = seekOf (now (a .0)) (a .1 .0) in
       let f = reader-follows .ours .follows _ _ o w q in (

@@ -3,6 +3,7 @@ use Prim.Native.Nat.{ℕ}
 use mathlib.Core.Path.{_≡_, refl}
 use mathlib.Core.List.{List}
 use Rattle.base_laws.specs.Tests.{choose}
+use Rattle.state_view.specs.State.{State}
 use Rattle.receive_answer.specs.declared.Drop.{Drop}
 use Rattle.receive_answer.specs.declared.Drop.the-variants as drop
 use Rattle.receive_answer.specs.declared.FrameAnswer.{FrameAnswer}
@@ -11,16 +12,16 @@ use Rattle.receive_answer.specs.Told as Frame
 use Rattle.call_clear.specs.declared.ClearAnswer.{ClearAnswer}
 use Rattle.call_clear.specs.declared.ClearAnswer.the-variants as cleared
 use Rattle.call_clear.specs.Clear as Clear
-use Rattle.call_setting_answer.specs.declared.SettingAnswer.{SettingAnswer}
-use Rattle.call_setting_answer.specs.declared.SettingAnswer.the-variants as setting
-use Rattle.call_setting_answer.specs.Told as Setting
+use Rattle.call_setting.specs.declared.SettingAnswer.{SettingAnswer}
+use Rattle.call_setting.specs.declared.SettingAnswer.the-variants as setting
+use Rattle.call_setting.specs.Told as Setting
 use Rattle.call_send_answer.specs.declared.DmmAnswer.{DmmAnswer}
 use Rattle.call_send_answer.specs.declared.DmmAnswer.the-variants as dmm
 use Rattle.call_send_answer.specs.declared.LmmAnswer.{LmmAnswer}
 use Rattle.call_send_answer.specs.declared.LmmAnswer.the-variants as lmm
-use Rattle.call_send_answer.specs.declared.TickAnswer.{TickAnswer}
-use Rattle.call_send_answer.specs.declared.TickAnswer.the-variants as ticked
 use Rattle.call_send_answer.specs.Told.{tickTold, lmmTold, dmmTold}
+use Rattle.call_tick.specs.Tick.{tickOf}
+use Rattle.call_tick.proofs.Ticks.{of-four}
 use Rattle.stored_record.specs.declared.RecordAnswer.{RecordAnswer}
 use Rattle.stored_record.specs.declared.RecordAnswer.the-variants as stored
 use Rattle.stored_record.specs.Writing as Writing
@@ -35,8 +36,8 @@ use Rattle.frame_reader_answer.specs.Told as Reasons
 use Rattle.frame_reader.specs.Reader.{partOf, answerAt}
 use Rattle.linkbox_reader.specs.Tlvs.{tlvAt}
 use Rattle.paper_said.specs.Words.{settingAnswer, frameAnswer, clearAnswer, tickAnswer, lmmAnswer, dmmAnswer}
-use Rattle.paper_records.specs.Records.{writeTells, lineTells}
-use Rattle.paper_reader.specs.Reader.{readerTells}
+use Rattle.paper_beside.specs.Records.{writeTells, lineTells}
+use Rattle.paper_beside.specs.Reader.{readerTells}
 use Rattle.linkbox_said.specs.Heard.{plainSays, frameSays, tickSays, sendSays, writeSays, lineSays, tlvSays}
 
 pub setting-says : (x : SettingAnswer) → plainSays (Setting.told x .refusal) ≡ settingAnswer x
@@ -76,25 +77,23 @@ frame-says (answer.Measured near far) = refl
 frame-says (answer.TwoWay twoway) = refl
 frame-says (answer.AllWays twoway far near) = refl
 
-pub tick-says : (x : TickAnswer) → tickSays (tickTold x) ≡ tickAnswer x
+-- of a tick's own answers: a CCM is longer than nothing
+pub tick-says : (s : State) (buffer : List ℕ) → tickSays (tickTold (tickOf s buffer .answer)) ≡ tickAnswer (tickOf s buffer .answer)
 unfolding tickTold choose
-tick-says ticked.NotWellFormed = refl
-tick-says ticked.NoRoom = refl
-tick-says ticked.Quiet = refl
-tick-says ticked.Sent = refl
+tick-says s buffer = of-four (λ x. tickSays (tickTold x) ≡ tickAnswer x) refl refl refl refl s buffer
 
 pub lmm-says : (x : LmmAnswer) → sendSays (lmmTold x) ≡ lmmAnswer x
 unfolding lmmTold
 lmm-says lmm.NotWellFormed = refl
 lmm-says lmm.NoRoom = refl
-lmm-says lmm.Sent = refl
+lmm-says (lmm.Sent n) = refl
 
 pub dmm-says : (x : DmmAnswer) → sendSays (dmmTold x) ≡ dmmAnswer x
 unfolding dmmTold
 dmm-says dmm.NotWellFormed = refl
 dmm-says dmm.BadStamp = refl
 dmm-says dmm.NoRoom = refl
-dmm-says dmm.Sent = refl
+dmm-says (dmm.Sent n) = refl
 
 pub write-says : (x : RecordAnswer) → writeSays (Writing.told x) ≡ writeTells x
 unfolding Writing.told

@@ -6,6 +6,9 @@ use mathlib.Core.List.{List, []}
 use mathlib.Core.Logic.{⊎-elim}
 use lib.Dec.{eqb}
 use borrow.Author.Tests.{eqb-true}
+use Rattle.base_laws.specs.Ended.{Ended, ended, toldBy}
+use Rattle.base_laws.proofs.Ended.{answer-is, state-is, buffer-is}
+use Rattle.receive_answer.specs.Told.{told}
 use Rattle.base_laws.proofs.Tests.{known}
 use denote.Ref.{now}
 use Rattle.state_settings.specs.Settings.{Settings, settingsOf}
@@ -21,13 +24,12 @@ use Rattle.call_conditions.specs.declared.ConditionsTold.{ConditionsTold}
 use Rattle.call_conditions.specs.Conditions.{noConditions, conditionsOf}
 use Rattle.call_setting.specs.Start.{afterSetting, answerOf, numbersOf as numbers}
 use Rattle.call_setting.proofs.Starts.{starts}
-use Rattle.call_setting_answer.specs.declared.SettingTold.{SettingTold}
-use Rattle.call_setting_answer.specs.Told as Setting
+use Rattle.call_setting.specs.declared.SettingTold.{SettingTold}
+use Rattle.call_setting.specs.Told as Setting
 use Rattle.message_parts.specs.declared.parts.WrittenTold.{WrittenTold}
 use Rattle.call_tick.proofs.Ticks.{ticks}
 use Rattle.call_send_lmm.proofs.Lmm.{sends-lmm}
 use Rattle.call_send_dmm.proofs.Dmm.{sends-dmm}
-use Rattle.receive_carry_out.specs.CarryOut.{Framed}
 use Rattle.receive_frame.specs.Frame.{frameOf}
 use Rattle.receive_frame.specs.Numbers.{numbersOf}
 use Rattle.receive_frame.proofs.Numbers.{frames-told}
@@ -48,6 +50,7 @@ use Rattle.linkbox_said.specs.Heard.{plainSays, frameSays, tickSays, sen
 use Rattle.linkbox_said.specs.Lying.{stateIn, behind, sideBy}
 use Rattle.linkbox_said.specs.Shipped.{Tells, Shipped}
 use Rattle.linkbox_said.proofs.Heard.{setting-says, clear-says, frame-says, tick-says, lmm-says, dmm-says}
+use Rattle.receive_answer.specs.declared.FrameAnswer.{FrameAnswer}
 
 -- what tells the outcome of our box tells the paper's
 tied : {x : Answer} {n : Numbers} {z : State} {b : List ℕ} {h : HandedOut} (s : State) (c : Call) (o : Outcome) → OnWire c → Said s c o
@@ -64,19 +67,18 @@ module _ (s : State) (n : ℕ) (f : List ℕ) (receive transmit : Stamp) (buffer
   abbrev arrival : Arrival
   arrival = record { side = sideBy n; octets = f; receive = receive; transmit = transmit; buffer = buffer }
 
-  abbrev from : Side → Framed
+  abbrev from : Side → Ended State FrameAnswer
   from d = frameOf s d f receive transmit buffer
 
-  frame-tells : (r : FrameTold) (z : State) (b : List ℕ) → r ≡ numbersOf s (C.sideOf n) f receive transmit buffer → z ≡ from (C.sideOf n) .state
-      → b ≡ from (C.sideOf n) .buffer → Tells (frameSays r) (frameNumbers r) z b call.nothing (ours s (call.frame arrival))
-  frame-tells r z b e f g =
+  frame-tells : (r : FrameTold) (z : State) (b : List ℕ) → ended r z b ≡ toldBy told (from (C.sideOf n))
+      → Tells (frameSays r) (frameNumbers r) z b call.nothing (ours s (call.frame arrival))
+  frame-tells r z b e =
       let d : C.sideOf n ≡ sideOf (sideBy n) = sym (side-is (eqb n 0)) in
-      let told = e ∙ sym (frames-told .agree s (C.sideOf n) _ receive transmit buffer) in
       record {
-        answer = ap frameSays told ∙ frame-says _ ∙ ap (λ (x : Side). frameAnswer (from x .answer)) d;
-        numbers = ap frameNumbers told ∙ told-alike .frame (from (C.sideOf n) .answer) ∙ ap (λ (x : Side). Told.numbersOf (frameAnswer (from x .answer))) d;
-        state = f ∙ ap (λ (x : Side). from x .state) d;
-        buffer = g ∙ ap (λ (x : Side). from x .buffer) d;
+        answer = ap frameSays (answer-is e) ∙ frame-says _ ∙ ap (λ (x : Side). frameAnswer (from x .answer)) d;
+        numbers = ap frameNumbers (answer-is e) ∙ told-alike .frame (from (C.sideOf n) .answer) ∙ ap (λ (x : Side). Told.numbersOf (frameAnswer (from x .answer))) d;
+        state = state-is e ∙ ap (λ (x : Side). from x .state) d;
+        buffer = buffer-is e ∙ ap (λ (x : Side). from x .buffer) d;
         out = refl;
       }
 
@@ -89,8 +91,8 @@ module _ (words names ids : List ℕ) (before : State) (r : NewBox) (e : r ≡ n
   told-is : r .refusal ≡ numbers t .refusal
   told-is = ap (λ (x : NewBox). x .refusal) e
 
-  answer-is : r .refusal ≡ Setting.told (answerOf t) .refusal
-  answer-is = told-is ∙ ap (λ (x : SettingTold). x .refusal) (sym (starts .agree t))
+  refusal-is : r .refusal ≡ Setting.told (answerOf t) .refusal
+  refusal-is = told-is ∙ ap (λ (x : SettingTold). x .refusal) (sym (starts .agree t))
 
   out-is : shown (r .state) ≡ afterSetting t
   out-is = ap (λ (x : NewBox). shown (x .state)) e ∙ starts .hands-out words names ids
@@ -98,8 +100,8 @@ module _ (words names ids : List ℕ) (before : State) (r : NewBox) (e : r ≡ n
   setting-tells : Tells (plainSays (r .refusal)) (counted (r .refusal) 0 0) (takenOver before (r .refusal) (shown (r .state))) [] (call.a-state (shown (r .state)))
       (ours before (call.new-setting t))
   setting-tells = record {
-    answer = ap plainSays answer-is ∙ setting-says (answerOf t);
-    numbers = ap (λ (n : ℕ). counted n 0 0) answer-is ∙ told-alike .setting (answerOf t);
+    answer = ap plainSays refusal-is ∙ setting-says (answerOf t);
+    numbers = ap (λ (n : ℕ). counted n 0 0) refusal-is ∙ told-alike .setting (answerOf t);
     state = ap₂ (λ (n : ℕ) (x : State). takenOver before n x) told-is out-is ∙ taken-over before t;
     buffer = refl;
     out = ap call.a-state out-is;
@@ -130,42 +132,42 @@ shipped = record {
       tied before _ o (from-arrays (now (a .0)) (now (a .1 .0)) (now (a .1 .1 .0)) (p .1) w) q (setting-tells _ _ _ before r (p .0));
   frame = λ κs a r s p w o q.
       let x = behind a in
-      tied _ _ o (record { octets = w; receive = p .1 .1 .1 .0; transmit = p .1 .1 .1 .1 }) q
-      (frame-tells (stateIn a) (x .0) (now (x .1 .0)) (x .1 .1 .0) (x .1 .1 .1 .0) (now (x .1 .1 .1 .1 .0)) r _ _ (p .0) (p .1 .0 .0) (p .1 .0 .1));
+      tied _ _ o (record { octets = w; receive = p .1 .1 .0; transmit = p .1 .1 .1 }) q
+      (frame-tells (stateIn a) (x .0) (now (x .1 .0)) (x .1 .1 .0) (x .1 .1 .1 .0) (now (x .1 .1 .1 .1 .0)) r _ _ (p .0));
   tick = λ κs a r s p o q.
-      let e = p .0 ∙ sym (ticks .agree _ _) in
+      let e = p .0 in
       tied _ _ o tt q (record {
-        answer = ap tickSays e ∙ tick-says _;
-        numbers = ap (λ (x : WrittenTold). counted (x .refusal) 0 (x .length)) e ∙ told-alike .tick _;
-        state = p .1 .0 .0;
-        buffer = p .1 .0 .1;
+        answer = ap tickSays (answer-is e) ∙ tick-says _ _;
+        numbers = ap (λ (x : WrittenTold). counted (x .refusal) 0 (x .length)) (answer-is e) ∙ told-alike .tick _;
+        state = state-is e;
+        buffer = buffer-is e;
         out = refl;
       });
   clear = λ κs a r s p o q.
-      let e = p .0 ∙ ap (λ (x : ClearTold). x .refusal) (sym (clears .agree _)) in
+      let e = p .0 in
       tied _ _ o tt q (record {
-        answer = ap plainSays e ∙ clear-says _;
-        numbers = ap (λ (n : ℕ). counted n 0 0) e ∙ told-alike .clear _;
-        state = p .1 .0;
-        buffer = refl;
+        answer = ap plainSays (answer-is e) ∙ clear-says _;
+        numbers = ap (λ (n : ℕ). counted n 0 0) (answer-is e) ∙ told-alike .clear _;
+        state = state-is e;
+        buffer = buffer-is e;
         out = refl;
       });
   send-lmm = λ κs a r s p o q.
-      let e = p .0 ∙ sym (sends-lmm .agree _ _) in
+      let e = p in
       tied _ _ o tt q (record {
-        answer = ap sendSays e ∙ lmm-says _;
-        numbers = ap (λ (x : WrittenTold). counted (x .refusal) 0 (x .length)) e ∙ told-alike .lmm _;
-        state = refl;
-        buffer = p .1;
+        answer = ap sendSays (answer-is e) ∙ lmm-says _;
+        numbers = ap (λ (x : WrittenTold). counted (x .refusal) 0 (x .length)) (answer-is e) ∙ told-alike .lmm _;
+        state = state-is e;
+        buffer = buffer-is e;
         out = refl;
       });
   send-dmm = λ κs a r s p o q.
-      let e = p .0 .0 ∙ sym (sends-dmm .agree _ _ _) in
+      let e = p .0 in
       tied _ _ o (p .1) q (record {
-        answer = ap sendSays e ∙ dmm-says _;
-        numbers = ap (λ (x : WrittenTold). counted (x .refusal) 0 (x .length)) e ∙ told-alike .dmm _;
-        state = refl;
-        buffer = p .0 .1;
+        answer = ap sendSays (answer-is e) ∙ dmm-says _;
+        numbers = ap (λ (x : WrittenTold). counted (x .refusal) 0 (x .length)) (answer-is e) ∙ told-alike .dmm _;
+        state = state-is e;
+        buffer = buffer-is e;
         out = refl;
       });
   conditions = λ κs a r s p o q. (

@@ -16,10 +16,10 @@ use Rattle.stored_line.specs.declared.LineTold.{LineTold}
 use Rattle.frame_reader_answer.specs.declared.TlvTold.{TlvTold}
 use Rattle.linkbox_reader.specs.declared.TlvAt.{TlvAt}
 use Rattle.paper_said.specs.Calls.{Answer, refused, dropped, passed, taken, written, loss, delay, delays, done}
-use Rattle.paper_records.specs.Records as stored
-use Rattle.paper_records.specs.Records.{RecordTells}
-use Rattle.paper_reader.specs.Reader as reader
-use Rattle.paper_reader.specs.Reader.{ReaderTells}
+use Rattle.paper_beside.specs.Records as stored
+use Rattle.paper_beside.specs.Records.{RecordTells}
+use Rattle.paper_beside.specs.Reader as reader
+use Rattle.paper_beside.specs.Reader.{ReaderTells}
 
 -- a setting, a clear: the refusal, or 0
 abbrev pub plainSays : ℕ → Answer

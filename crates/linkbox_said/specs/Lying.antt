@@ -18,14 +18,14 @@ abbrev pub stateIn : {X : Type 0} → Arrays X → State
 stateIn a = lying (a .0) (a .1 .0) (a .1 .1 .0) (a .1 .1 .1 .0) (a .1 .1 .1 .1 .0) (a .1 .1 .1 .1 .1 .0) (a .1 .1 .1 .1 .1 .1 .0)
 
 -- and those that lie there after a frame, a tick and a clear, each of which may write some of the arrays: a before, s afterwards
-abbrev pub afterFrame : {X Y : Type 0} → Arrays X → Arrays Y → State
-afterFrame a s = lying (a .0) (a .1 .0) (a .1 .1 .0) (s .1 .1 .1 .0) (s .1 .1 .1 .1 .0) (s .1 .1 .1 .1 .1 .0) (s .1 .1 .1 .1 .1 .1 .0)
+abbrev pub leftByFrame : {X Y : Type 0} → Arrays X → Arrays Y → State
+leftByFrame a s = lying (a .0) (a .1 .0) (a .1 .1 .0) (s .1 .1 .1 .0) (s .1 .1 .1 .1 .0) (s .1 .1 .1 .1 .1 .0) (s .1 .1 .1 .1 .1 .1 .0)
 
-abbrev pub afterTick : {X Y : Type 0} → Arrays X → Arrays Y → State
-afterTick a s = lying (a .0) (a .1 .0) (a .1 .1 .0) (s .1 .1 .1 .0) (a .1 .1 .1 .1 .0) (s .1 .1 .1 .1 .1 .0) (a .1 .1 .1 .1 .1 .1 .0)
+abbrev pub leftByTick : {X Y : Type 0} → Arrays X → Arrays Y → State
+leftByTick a s = lying (a .0) (a .1 .0) (a .1 .1 .0) (s .1 .1 .1 .0) (a .1 .1 .1 .1 .0) (s .1 .1 .1 .1 .1 .0) (a .1 .1 .1 .1 .1 .1 .0)
 
-abbrev pub afterClear : {X Y : Type 0} → Arrays X → Arrays Y → State
-afterClear a s = lying (a .0) (a .1 .0) (a .1 .1 .0) (a .1 .1 .1 .0) (a .1 .1 .1 .1 .0) (s .1 .1 .1 .1 .1 .0) (s .1 .1 .1 .1 .1 .1 .0)
+abbrev pub leftByClear : {X Y : Type 0} → Arrays X → Arrays Y → State
+leftByClear a s = lying (a .0) (a .1 .0) (a .1 .1 .0) (a .1 .1 .1 .0) (a .1 .1 .1 .1 .0) (s .1 .1 .1 .1 .1 .0) (s .1 .1 .1 .1 .1 .1 .0)
 
 -- what stands behind them
 abbrev pub behind : {X : Type 0} → Arrays X → X

@@ -4,7 +4,7 @@ use Prim.Native.Nat.{ℕ}
 use mathlib.Core.Path.{_≡_}
 use mathlib.Core.List.{List, []}
 use denote.Ref.{now}
-use Rattle.base_octets.specs.Numbers.{Octets}
+use Rattle.base_octets.specs.Octets.{Octets}
 use Rattle.state_settings.specs.Settings.{settingsOf}
 use Rattle.loss_lent.specs.Lent.{Lent}
 use Rattle.loss_lent.specs.Said.{FollowsLent}
@@ -16,9 +16,9 @@ use Rattle.paper_said.specs.Calls.{Answer, HandedOut, nothing, Outcome}
 use Rattle.paper_said.specs.Said.{Said}
 use Rattle.paper_said.specs.Words.{takenOver, conditionsAnswer}
 use Rattle.paper_said.specs.Told.{Numbers, counted, numbersOf, frameNumbers}
-use Rattle.paper_records.specs.Records as stored
-use Rattle.paper_records.specs.Records.{RecordLeft, leaving, RecordSaid}
-use Rattle.paper_reader.specs.Reader.{ReaderTells, ReaderSaid}
+use Rattle.paper_beside.specs.Records as stored
+use Rattle.paper_beside.specs.Records.{RecordLeft, leaving, RecordSaid}
+use Rattle.paper_beside.specs.Reader.{ReaderTells, ReaderSaid}
 use Rattle.linkbox_state.proofs.linkbox_new_setting.Reads as new-setting
 use Rattle.linkbox_state.proofs.linkbox_clear.Reads as clear
 use Rattle.linkbox_state.proofs.linkbox_conditions.Reads as conditions
@@ -32,7 +32,7 @@ use Rattle.linkbox_records.proofs.linkbox_read_line.Reads as read-line
 use Rattle.linkbox_records.proofs.linkbox_write_line.Reads as write-line
 use Rattle.linkbox_reader.proofs.linkbox_tlv.Reads as tlv
 use Rattle.linkbox_said.specs.Heard.{plainSays, frameSays, tickSays, sendSays, settingsSays, writeSays, lineSays, tlvSays, writeNumbers, lineNumbers, tlvNumbers}
-use Rattle.linkbox_said.specs.Lying.{stateIn, afterFrame, afterTick, afterClear, behind, arrivalIn}
+use Rattle.linkbox_said.specs.Lying.{stateIn, leftByFrame, leftByTick, leftByClear, behind, arrivalIn}
 
 -- the answer that C reads from its numbers is the paper's, and the numbers are those of that answer, all others 0; the state that lies with
 -- C then, its buffer, and what it is handed out are the paper's too
@@ -53,11 +53,11 @@ pub record Shipped : Type 1 where
       (call.a-state (shown (r .state))) o
   pub frame : (κs : _) (a : _) (r : _) (s : _) → frame.Post κs a r s → Octets (now (behind a .1 .0)) → (o : Outcome)
       → Said (stateIn a) (call.frame (arrivalIn (behind a))) o
-      → Tells (frameSays r) (frameNumbers r) (afterFrame a s) (now (behind s .1 .1 .1 .1 .0)) nothing o
+      → Tells (frameSays r) (frameNumbers r) (leftByFrame a s) (now (behind s .1 .1 .1 .1 .0)) nothing o
   pub tick : (κs : _) (a : _) (r : _) (s : _) → tick.Post κs a r s → (o : Outcome) → Said (stateIn a) (call.tick (now (behind a .0))) o
-      → Tells (tickSays r) (counted (r .refusal) 0 (r .length)) (afterTick a s) (now (behind s .0)) nothing o
+      → Tells (tickSays r) (counted (r .refusal) 0 (r .length)) (leftByTick a s) (now (behind s .0)) nothing o
   pub clear : (κs : _) (a : _) (r : _) (s : _) → clear.Post κs a r s → (o : Outcome) → Said (stateIn a) call.clear o
-      → Tells (plainSays r) (counted r 0 0) (afterClear a s) [] nothing o
+      → Tells (plainSays r) (counted r 0 0) (leftByClear a s) [] nothing o
   pub send-lmm : (κs : _) (a : _) (r : _) (s : _) → send-lmm.Post κs a r s → (o : Outcome)
       → Said (stateIn a) (call.send-LMM (now (behind a .0))) o
       → Tells (sendSays r) (counted (r .refusal) 0 (r .length)) (stateIn a) (now (behind s .0)) nothing o

@@ -2,6 +2,7 @@
 -- the source's own clauses. Assumes nothing.
 use mathlib.Core.Path.{_≡_, sym, _∙_}
 use denote.Ref.{now}
+use Rattle.base_laws.proofs.Ended.{answer-is, state-is}
 use Rattle.state_places.proofs.Stores.{stores}
 use Rattle.linkbox_state.proofs.linkbox_new_setting.Reads as new-setting
 use Rattle.linkbox_state.proofs.linkbox_clear.Reads as clear
@@ -15,9 +16,10 @@ pub linkbox-clear-one : (κs : _) (a : _) (r r′ : _) (s s′ : _) → clear.Po
     × (now (s .1 .1 .1 .1 .1 .0) ≡ now (s′ .1 .1 .1 .1 .1 .0))
     × (now (s .1 .1 .1 .1 .1 .1 .0) ≡ now (s′ .1 .1 .1 .1 .1 .1 .0))
 linkbox-clear-one κs a r r′ s s′ p q =
+    let e = p .0 ∙ sym (q .0) in
     let o = stores (now (a .0)) (now (a .1 .0)) (now (a .1 .1 .0)) .one (now (a .1 .1 .1 .0)) (now (a .1 .1 .1 .1 .0)) (now (s .1 .1 .1 .1 .1 .0)) (now (s .1 .1 .1 .1 .1 .1 .0))
-    (now (a .1 .1 .1 .0)) (now (a .1 .1 .1 .1 .0)) (now (s′ .1 .1 .1 .1 .1 .0)) (now (s′ .1 .1 .1 .1 .1 .1 .0)) (p .1 .1) (q .1 .1) (p .1 .0 ∙ sym (q .1 .0)) in
-    (p .0 ∙ sym (q .0), o .2, o .3)
+    (now (a .1 .1 .1 .0)) (now (a .1 .1 .1 .1 .0)) (now (s′ .1 .1 .1 .1 .1 .0)) (now (s′ .1 .1 .1 .1 .1 .1 .0)) (p .1) (q .1) (state-is e) in
+    (answer-is e, o .2, o .3)
 
 pub linkbox-conditions-one : (κs : _) (a : _) (r r′ : _) (s s′ : _) → conditions.Post κs a r s → conditions.Post κs a r′ s′ → r ≡ r′
 linkbox-conditions-one κs a r r′ s s′ p q = p ∙ sym q

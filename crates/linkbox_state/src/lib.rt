@@ -2,16 +2,22 @@
 // These are for firmware in C or Rust; linkbox.h declares them. Each calls the function of its room and tells its answer.
 // Any content of the memory is a value. What a caller sees to is that the pointers are to memory of these sizes, and that what is written
 // overlaps nothing else that is handed over.
+ghost use mathlib.Core.List.{[]};
 ghost use mathlib.Core.Path.{_≡_};
-ghost use Rattle.state_settings.specs.Settings.{slots, settingsOf, Shaped};
+ghost use Rattle.state_settings.specs.Settings.{slots, lentSettings, Shaped};
+ghost use Rattle.base_laws.specs.Ended.{ended, toldBy};
 ghost use Rattle.state_view.specs.State.{before, afterSession};
 ghost use Rattle.state_places.specs.Stored.{Whole};
-ghost use Rattle.call_clear.specs.Clear.{clearOf, numbersOf as clearNumbers};
+ghost use Rattle.call_clear.specs.Clear.{clearOf, told};
 ghost use Rattle.call_conditions.specs.Conditions.{conditionsOf};
 ghost use Rattle.linkbox_state.specs.NewBox.{newBox};
 use call_conditions::ConditionsTold;
-use state_settings::PEERS;
+use state_settings::Names;
+use state_settings::Set;
+use state_settings::Slots;
+use state_view::Run;
 use state_view::StateArrays;
+use state_view::Totals;
 
 // What a new setting is answered: 0, or refusal 4; and the state that it hands out, all zeros beside 4.
 #[repr(C)]
@@ -22,18 +28,14 @@ pub struct NewBox {
 
 // A new setting, from settings that are only read. The caller takes the state over, or leaves it where it is refused.
 #[no_mangle]
-pub extern "C" fn linkbox_new_setting(
-    set: &[u32; 4],
-    names: &[u8; 60],
-    ids: &[u32; PEERS],
-) -> NewBox
+pub extern "C" fn linkbox_new_setting(set: &Set, names: &Names, ids: &Slots) -> NewBox
     ensures { λ r. ⌜ r ≡ newBox (now (set .entry)) (now (names .entry)) (now (ids .entry)) ⌝ }
-    ensures { λ _. ⌜ Shaped slots (settingsOf (now (set .entry)) (now (names .entry)) (now (ids .entry))) ⌝ }
+    ensures { λ _. ⌜ Shaped slots (lentSettings set names ids) ⌝ }
 {
     let started = call_setting::new_setting(set, names, ids);
     let answer = started.answer;
     let state = started.state;
-    let told = call_setting_answer::tell(answer);
+    let told = call_setting::tell(answer);
     NewBox {
         refusal: told.refusal,
         state,
@@ -43,16 +45,16 @@ pub extern "C" fn linkbox_new_setting(
 // A clear of the loss session; tells 0, or refusal 2.
 #[no_mangle]
 pub extern "C" fn linkbox_clear(
-    set: &[u32; 4],
-    names: &[u8; 60],
-    ids: &[u32; PEERS],
-    timers: &[u32; PEERS],
-    rdi: &[u32; PEERS],
-    run: &mut [u32; 15],
-    totals: &mut [i64; 2],
+    set: &Set,
+    names: &Names,
+    ids: &Slots,
+    timers: &Slots,
+    rdi: &Slots,
+    run: &mut Run,
+    totals: &mut Totals,
 ) -> u32
-    ensures { λ r. ⌜ r ≡ clearNumbers (before set names ids timers rdi run totals) .refusal ⌝ }
-    ensures { λ _. ⌜ afterSession set names ids timers rdi run totals ≡ clearOf (before set names ids timers rdi run totals) .state ⌝ }
+    ensures { λ r. ⌜ ended r (afterSession set names ids timers rdi run totals) [] ≡
+        toldBy (λ answer. told answer .refusal) (clearOf (before set names ids timers rdi run totals)) ⌝ }
     ensures { λ _. ⌜ Whole (now (run .exit)) (now (totals .exit)) ⌝ }
 {
     let answer = call_clear::clear(set, names, ids, timers, rdi, run, totals);
@@ -63,13 +65,13 @@ pub extern "C" fn linkbox_clear(
 // What stands, one by one.
 #[no_mangle]
 pub extern "C" fn linkbox_conditions(
-    set: &[u32; 4],
-    names: &[u8; 60],
-    ids: &[u32; PEERS],
-    timers: &[u32; PEERS],
-    rdi: &[u32; PEERS],
-    run: &[u32; 15],
-    totals: &[i64; 2],
+    set: &Set,
+    names: &Names,
+    ids: &Slots,
+    timers: &Slots,
+    rdi: &Slots,
+    run: &Run,
+    totals: &Totals,
 ) -> ConditionsTold
     ensures { λ r. ⌜ r ≡ conditionsOf (before set names ids timers rdi run totals) ⌝ }
 {

@@ -8,7 +8,7 @@ use lib.Dec.{eqb}
 use lib.ListN.{length, length-map}
 use Rattle.loss_reading.specs.declared.LossAnswer.{LossAnswer}
 use Rattle.loss_reading.specs.declared.LossAnswer.the-variants.{NotWellFormed, Full, First, Measured}
-use Rattle.loss_session.specs.Session.{Side, near, far, clearedSession}
+use Rattle.loss_session.specs.Session.{Side, near, far, clearedSession, mostReadings}
 use Rattle.loss_reading.specs.Reading.{afterReading}
 use Rattle.loss_account.specs.Account.{lost, losses}
 use Rattle.loss_account.specs.Demand3.{Step, answers, Seen, refused, kept, loss, seen, accounted, Shows, Demand3, Counts, truthOf, shown, measurements, accountedBoth, Demand3Both}
@@ -61,7 +61,7 @@ pairs-account (t ∷ ts) = ap (λ (l : List LossAnswer). First ∷ l) (pairs-los
 
 pub both : (f : Step) → Demand3 f → Demand3Both f
 both f m ts few steady =
-    let k : length (map shown ts) ≤ 1000000001 = omega (arith, length-map ts shown) in
+    let k : length (map shown ts) ≤ mostReadings = omega (arith, length-map ts shown) in
     let n = m .side near (map shown ts) (map (truthOf near) ts) k (shows near ts) (steady near) in
     let x = m .side far (map shown ts) (map (truthOf far) ts) k (shows far ts) (steady far) in
     record {

@@ -16,7 +16,7 @@ use Rattle.loss_session.specs.declared.LossSession.{LossSession}
 use Rattle.loss_reading.specs.declared.LossAnswer.the-variants.{Full}
 use Rattle.loss_reading.specs.declared.Updated.{Updated}
 use Rattle.loss_growth.specs.Growth.{growth}
-use Rattle.loss_session.specs.Session.{Side, near, far, sentOf, receivedOf, totalOf, clearedSession, WellFormed}
+use Rattle.loss_session.specs.Session.{Side, near, far, sentOf, receivedOf, totalOf, clearedSession, WellFormed, mostIntervals, mostReadings}
 use Rattle.loss_reading.specs.Reading.{lossOn, firstOf, measuredOf, afterReading}
 use Rattle.loss_growth.proofs.Growing.{true-growth}
 use Rattle.loss_session.proofs.Laws.{well, cleared-well}
@@ -33,15 +33,15 @@ record Reach (n : ℕ) (s : LossSession) : Type 0 where
   pub count : s .intervals ≡ n
 
 module _ (n : ℕ) (s : LossSession) (h : Reach n s) (r : Readings) where
-  measures : n < 1000000000 → afterReading s r ≡ measuredOf s r
+  measures : n < mostIntervals → afterReading s r ≡ measuredOf s r
   measures few = reading-measured s r (well s .1 (h .fine)) (λ z. omega (arith, h .held)) (λ q. omega (arith, h .count))
 
-  more : n < 1000000000 → Reach (n + 1) (afterReading s r .session)
+  more : n < mostIntervals → Reach (n + 1) (afterReading s r .session)
   more few =
       let e = measures few in
       record { fine = stays s r (h .fine); held = rw e (h .held); count = rw e (omega (arith, h .count)) }
 
-  stops : n ≡ 1000000000 → afterReading s r ≡ record { answer = Full; session = s }
+  stops : n ≡ mostIntervals → afterReading s r ≡ record { answer = Full; session = s }
   stops full = reading-full s r (well s .1 (h .fine)) (λ z. omega (arith, h .held)) (h .count ∙ full)
 
 starts : (r : Readings) → afterReading clearedSession r ≡ firstOf clearedSession r
@@ -50,37 +50,38 @@ starts r = reading-first clearedSession r (well clearedSession .1 cleared-well) 
 started : (r : Readings) → Reach 0 (afterReading clearedSession r .session)
 started r = record { fine = stays clearedSession r cleared-well; held = rw (starts r) refl; count = rw (starts r) refl }
 
-counts : (rs : List Readings) (n : ℕ) (s : LossSession) → Reach n s → n + length rs ≤ 1000000000 → Reach (n + length rs) (leaves afterReading s rs)
+counts : (rs : List Readings) (n : ℕ) (s : LossSession) → Reach n s → n + length rs ≤ mostIntervals → Reach (n + length rs) (leaves afterReading s rs)
 unfolding after
 counts [] n s h few = rw (add-zero n) h
 counts (r ∷ rs) n s h few =
     let e : n + suc (length rs) ≡ (n + 1) + length rs = omega arith in
     rw e (counts rs (n + 1) (afterReading s r .session) (more n s h r (omega arith)) (omega arith))
 
-fills : (rs : List Readings) (n : ℕ) (s : LossSession) → Reach n s → n ≤ 1000000000 → 1000000000 ≤ n + length rs → Reach 1000000000 (leaves afterReading s rs)
+fills : (rs : List Readings) (n : ℕ) (s : LossSession) → Reach n s → n ≤ mostIntervals → mostIntervals ≤ n + length rs → Reach mostIntervals (leaves afterReading s rs)
 unfolding after
-fills [] n s h few many = let e : n ≡ 1000000000 = omega arith in rw e at h
-fills (r ∷ rs) n s h few many = go (λ m z. fills rs m z) (eqb n 1000000000) refl
+fills [] n s h few many = let e : n ≡ mostIntervals = omega arith in rw e at h
+fills (r ∷ rs) n s h few many = go (λ m z. fills rs m z) (eqb n mostIntervals) refl
   where
-    go : ((m : ℕ) (z : LossSession) → Reach m z → m ≤ 1000000000 → 1000000000 ≤ m + length rs → Reach 1000000000 (leaves afterReading z rs))
-        → (b : Bool) → eqb n 1000000000 ≡ b → Reach 1000000000 (leaves afterReading (afterReading s r .session) rs)
+    go : ((m : ℕ) (z : LossSession) → Reach m z → m ≤ mostIntervals → mostIntervals ≤ m + length rs
+        → Reach mostIntervals (leaves afterReading z rs))
+        → (b : Bool) → eqb n mostIntervals ≡ b → Reach mostIntervals (leaves afterReading (afterReading s r .session) rs)
     go again true e =
-        let q : n ≡ 1000000000 = eqb-true n 1000000000 e in
+        let q : n ≡ mostIntervals = eqb-true n mostIntervals e in
         rw (stops n s h r q) (again n s h few (omega arith))
     go again false e =
-        let q : n < 1000000000 = omega (arith, eqb-false n 1000000000 e) in
+        let q : n < mostIntervals = omega (arith, eqb-false n mostIntervals e) in
         again (n + 1) (afterReading s r .session) (more n s h r q) (omega arith) (omega arith)
 
-intervals : (rs : List Readings) → length rs ≤ 1000000001 → leaves afterReading clearedSession rs .intervals ≡ length rs - 1
+intervals : (rs : List Readings) → length rs ≤ mostReadings → leaves afterReading clearedSession rs .intervals ≡ length rs - 1
 unfolding after
 intervals [] few = refl
 intervals (r ∷ rs) few = omega (arith, counts rs 0 (afterReading clearedSession r .session) (started r) (omega arith) .count)
 
-later : (rs : List Readings) (r : Readings) → 1000000001 ≤ length rs
+later : (rs : List Readings) (r : Readings) → mostReadings ≤ length rs
     → afterReading (leaves afterReading clearedSession rs) r ≡ record { answer = Full; session = leaves afterReading clearedSession rs }
 unfolding after
 later [] r many = absurd (omega arith)
-later (q ∷ rs) r many = stops 1000000000 _ (fills rs 0 (afterReading clearedSession q .session) (started q) (omega arith) (omega arith)) r refl
+later (q ∷ rs) r many = stops mostIntervals _ (fills rs 0 (afterReading clearedSession q .session) (started q) (omega arith) (omega arith)) r refl
 
 -- ── the account's arithmetic ──
 
@@ -158,7 +159,7 @@ record Agreed (d : Side) (n : ℕ) (o t : Truth) (s : LossSession) : Type 0 wher
   pub before : Before o t
   pub totals : totalOf d s ≡ lost o t
 
-module _ (d : Side) (n : ℕ) (o t u : Truth) (s : LossSession) (h : Agreed d n o t s) (r : Readings) (few : n < 1000000000)
+module _ (d : Side) (n : ℕ) (o t u : Truth) (s : LossSession) (h : Agreed d n o t s) (r : Readings) (few : n < mostIntervals)
     (show : Shown d r u) (g : Grows (t .sent) (u .sent)) (k : Grows (t .received) (u .received)) where
   measured : afterReading s r ≡ measuredOf s r
   measured = measures n s (h .reach) r few
@@ -181,7 +182,7 @@ record From (d : Side) (o t : Truth) (s : LossSession) (rs : List Readings) (us 
   pub results : map (seen d) (answers afterReading s rs) ≡ map loss (losses t us)
   pub totals : totalOf d (leaves afterReading s rs) ≡ lost o (newest t us)
 
-from : (us : List Truth) (rs : List Readings) (d : Side) (n : ℕ) (o t : Truth) (s : LossSession) → Agreed d n o t s → n + length rs ≤ 1000000000
+from : (us : List Truth) (rs : List Readings) (d : Side) (n : ℕ) (o t : Truth) (s : LossSession) → Agreed d n o t s → n + length rs ≤ mostIntervals
     → Shows d rs us → GoesOn t us → From d o t s rs us
 unfolding answers after losses newest
 from [] [] d n o t s h few shows goes = record { results = refl; totals = h .totals }
@@ -193,7 +194,7 @@ from (u ∷ us) (r ∷ rs) d n o t s h few shows goes =
     let rest = from us rs d (n + 1) o u (afterReading s r .session) next (omega arith) (shows .2) (goes .2) in
     record { results = ap₂ _∷_ (next-seen d n o t u s h r (omega arith) show (goes .0) (goes .1)) (rest .results); totals = rest .totals }
 
-side : (d : Side) (rs : List Readings) (ts : List Truth) → length rs ≤ 1000000001 → Shows d rs ts → Sound ts → Agrees afterReading d rs ts
+side : (d : Side) (rs : List Readings) (ts : List Truth) → length rs ≤ mostReadings → Shows d rs ts → Sound ts → Agrees afterReading d rs ts
 unfolding answers after accounted total
 side d [] [] few shows sound = record { results = refl; totals = cleared-total d }
 side d [] (t ∷ ts) few shows sound = absurd shows

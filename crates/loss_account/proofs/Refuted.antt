@@ -11,7 +11,7 @@ use Rattle.base_laws.specs.Tests.{choose}
 use Rattle.loss_session.specs.declared.Readings.{Readings}
 use Rattle.loss_session.specs.declared.LossSession.{LossSession}
 use Rattle.loss_reading.specs.declared.Updated.{Updated}
-use Rattle.loss_session.specs.Session.{near, clearedSession, wellFormed}
+use Rattle.loss_session.specs.Session.{near, clearedSession, wellFormed, mostIntervals, mostReadings}
 use Rattle.loss_reading.specs.Reading.{afterReading}
 use Rattle.loss_account.specs.Account.{Truth, Grows, losses, newest, total}
 use Rattle.loss_account.specs.Demand3.{answers, leaves, Seen, refused, kept, loss, accounted, Demand3}
@@ -100,19 +100,19 @@ forgetful-out d =
     differ 1 0 0 (sym (ap number (a .totals))) refl
 
 -- 1,000,000,001 readings and then one more, which it keeps, whatever it is. What the run of them leaves is taken from the demand itself
-renews : (s : LossSession) (r : Readings) → s .intervals ≡ 1000000000 → renewing s r .session .last ≡ r
-renews s r e = rw (eq-eqb (s .intervals) 1000000000 e)
+renews : (s : LossSession) (r : Readings) → s .intervals ≡ mostIntervals → renewing s r .session .last ≡ r
+renews s r e = rw (eq-eqb (s .intervals) mostIntervals e)
 
-keeps-any : Demand3 renewing → (rs : List Readings) → length rs ≡ 1000000001 → (r : Readings) → leaves renewing clearedSession rs .last ≡ r
+keeps-any : Demand3 renewing → (rs : List Readings) → length rs ≡ mostReadings → (r : Readings) → leaves renewing clearedSession rs .last ≡ r
 keeps-any d rs l r =
-    let e : leaves renewing clearedSession rs .intervals ≡ 1000000000 = omega (arith, d .intervals rs (omega arith)) in
+    let e : leaves renewing clearedSession rs .intervals ≡ mostIntervals = omega (arith, d .intervals rs (omega arith)) in
     sym (ap (λ (u : Updated). u .session .last) (d .later rs r (omega arith))) ∙ renews (leaves renewing clearedSession rs) r e
 
-renewing-no : (rs : List Readings) → length rs ≡ 1000000001 → Demand3 renewing → ⊥
+renewing-no : (rs : List Readings) → length rs ≡ mostReadings → Demand3 renewing → ⊥
 renewing-no rs l d = differ 1 0 0 (ap (λ (r : Readings). r .txb) (sym (keeps-any d rs l (reading 1 0)) ∙ keeps-any d rs l (reading 0 0))) refl
 
 renewing-out : Demand3 renewing → ⊥
-renewing-out = renewing-no (replicate 1000000001 (reading 0 0)) (length-replicate 1000000001 (reading 0 0))
+renewing-out = renewing-no (replicate mostReadings (reading 0 0)) (length-replicate mostReadings (reading 0 0))
 
 pub shut-out : ShutOut
 shut-out = record {

@@ -5,7 +5,7 @@ use mathlib.Core.List.{List, [], _∷_, map}
 use native.Mathlib.Omega.{arith}
 use lib.ListN.{length}
 use Rattle.loss_session.specs.declared.Readings.{Readings}
-use Rattle.loss_session.specs.Session.{Side, near, far, sentOf, receivedOf, clearedSession}
+use Rattle.loss_session.specs.Session.{Side, near, far, sentOf, receivedOf, clearedSession, mostReadings}
 use Rattle.loss_account.specs.Account.{Truth, Grows, GoesOn, Sound}
 use Rattle.loss_account.specs.Demand3.{Step, answers, Shows, Agrees, Demand3, Counts, truthOf, shown, Steady, Small, Tight}
 use Rattle.loss_account.proofs.Both.{pairs, pairs-seen}
@@ -94,7 +94,7 @@ shown-by-all rs small = (countsFrom nothing rs, counts-shown nothing rs small, s
     steady near = rw (counts-sides near nothing rs) (sound near rs)
     steady far = rw (counts-sides far nothing rs) (sound far rs)
 
-agrees : (f : Step) → Demand3 f → (rs : List Readings) → length rs ≤ 1000000001 → Small rs → (d : Side) → Agrees f d rs (build d origin rs)
+agrees : (f : Step) → Demand3 f → (rs : List Readings) → length rs ≤ mostReadings → Small rs → (d : Side) → Agrees f d rs (build d origin rs)
 agrees f m rs few small d = m .side d rs (build d origin rs) few (build-shows d origin rs small) (sound d rs)
 
 pub tight : Tight

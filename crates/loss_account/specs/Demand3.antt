@@ -12,7 +12,7 @@ use Rattle.loss_session.specs.declared.LossSession.{LossSession}
 use Rattle.loss_reading.specs.declared.LossAnswer.{LossAnswer}
 use Rattle.loss_reading.specs.declared.LossAnswer.the-variants.{NotWellFormed, Full, First, Measured}
 use Rattle.loss_reading.specs.declared.Updated.{Updated}
-use Rattle.loss_session.specs.Session.{Side, near, far, sentOf, receivedOf, totalOf, clearedSession}
+use Rattle.loss_session.specs.Session.{Side, near, far, sentOf, receivedOf, totalOf, clearedSession, mostReadings}
 use Rattle.loss_account.specs.Account.{Truth, Sound, lost, losses, total}
 
 abbrev pub Step : Type 0
@@ -61,11 +61,11 @@ pub record Agrees (f : Step) (d : Side) (rs : List Readings) (ts : List Truth) :
 -- the demand
 pub record Demand3 (f : Step) : Type 0 where
   -- each side agrees, by the premise on its own two counts alone
-  pub side : (d : Side) (rs : List Readings) (ts : List Truth) → length rs ≤ 1000000001 → Shows d rs ts → Sound ts → Agrees f d rs ts
+  pub side : (d : Side) (rs : List Readings) (ts : List Truth) → length rs ≤ mostReadings → Shows d rs ts → Sound ts → Agrees f d rs ts
   -- the intervals are one fewer than the readings, or 0 if there were none, whatever the readings
-  pub intervals : (rs : List Readings) → length rs ≤ 1000000001 → leaves f clearedSession rs .intervals ≡ length rs - 1
+  pub intervals : (rs : List Readings) → length rs ≤ mostReadings → leaves f clearedSession rs .intervals ≡ length rs - 1
   -- after 1,000,000,001 readings every further one is refused with 5 and changes nothing, whatever the readings
-  pub later : (rs : List Readings) (r : Readings) → 1000000001 ≤ length rs
+  pub later : (rs : List Readings) (r : Readings) → mostReadings ≤ length rs
       → f (leaves f clearedSession rs) r ≡ record { answer = Full; session = leaves f clearedSession rs }
 
 -- ── both sides ──
@@ -104,7 +104,7 @@ pub record BothAgree (f : Step) (ts : List Counts) : Type 0 where
   pub intervals : leaves f clearedSession (map shown ts) .intervals ≡ length ts - 1
 
 abbrev pub Demand3Both : Step → Type 0
-Demand3Both f = (ts : List Counts) → length ts ≤ 1000000001 → Steady ts → BothAgree f ts
+Demand3Both f = (ts : List Counts) → length ts ≤ mostReadings → Steady ts → BothAgree f ts
 
 -- ── no choice is left ──
 
@@ -121,4 +121,4 @@ pub record Alike (f g : Step) (rs : List Readings) : Type 0 where
 
 -- any two that meet the demand, whatever the readings
 abbrev pub Tight : Type 0
-Tight = (f g : Step) → Demand3 f → Demand3 g → (rs : List Readings) → length rs ≤ 1000000001 → Small rs → Alike f g rs
+Tight = (f g : Step) → Demand3 f → Demand3 g → (rs : List Readings) → length rs ≤ mostReadings → Small rs → Alike f g rs

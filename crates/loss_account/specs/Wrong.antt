@@ -4,6 +4,7 @@ use Prim.Native.Nat.{ℕ, _+_, _-_}
 use mathlib.Core.Bool.{cond}
 use lib.Dec.{eqb}
 use lib.IntN.{ℤ, pos, negsuc, _-ℤ_}
+use Rattle.loss_session.specs.Session.{mostIntervals}
 use Rattle.loss_session.specs.declared.Readings.{Readings}
 use Rattle.loss_session.specs.declared.LossSession.{LossSession}
 use Rattle.loss_reading.specs.declared.LossAnswer.{LossAnswer}
@@ -78,7 +79,7 @@ forgetful s r = record { answer = afterReading s r .answer; session = lastOnly (
 -- refuses the readings past the last interval with 5, but keeps them
 abbrev pub renewing : Step
 renewing s r =
-    cond (eqb (s .intervals) 1000000000)
+    cond (eqb (s .intervals) mostIntervals)
     (record { answer = Full; session = record { kept = s .kept; intervals = s .intervals; last = r; near = s .near; far = s .far } })
     (afterReading s r)
 

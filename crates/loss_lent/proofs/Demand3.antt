@@ -6,7 +6,7 @@ use native.Mathlib.Omega.{arith}
 use lib.ListN.{length, length-map}
 use Rattle.loss_session.specs.declared.Readings.{Readings}
 use Rattle.loss_session.specs.declared.LossSession.{LossSession}
-use Rattle.loss_session.specs.Session.{totalOf, clearedSession}
+use Rattle.loss_session.specs.Session.{totalOf, clearedSession, mostReadings}
 use Rattle.loss_reading.specs.declared.LossTold.{LossTold}
 use Rattle.loss_reading.specs.declared.Updated.{Updated}
 use Rattle.loss_reading.specs.Reading.{afterReading}
@@ -20,7 +20,7 @@ use Rattle.loss_lent.specs.Lent.{readingOf, Lent, Lending, LentRun}
 use Rattle.loss_lent.specs.Demand3.{LentAgrees, LentDemand3, LentAlike, LentMeets}
 use Rattle.loss_lent.proofs.Lends.{runs}
 
-agrees : (ts : List Counts) (said : List LossTold) (e : LossSession) → length ts ≤ 1000000001 → Steady ts
+agrees : (ts : List Counts) (said : List LossTold) (e : LossSession) → length ts ≤ mostReadings → Steady ts
     → LentRun Lent clearedSession (map shown ts) said e → LentAgrees ts said e
 agrees ts said e few steady run =
     let r = runs run in
@@ -32,7 +32,7 @@ agrees ts said e few steady run =
     }
 
 later : (rs : List Readings) (said : List LossTold) (s : LossSession) (r : Readings) (t : LossTold) (e : LossSession)
-    → 1000000001 ≤ length rs → LentRun Lent clearedSession rs said s → Lent s r t e → (t ≡ refused 5) × (e ≡ s)
+    → mostReadings ≤ length rs → LentRun Lent clearedSession rs said s → Lent s r t e → (t ≡ refused 5) × (e ≡ s)
 unfolding told
 later rs said s r t e many run p =
     let here : s ≡ leaves afterReading clearedSession rs = runs run .1 in
@@ -48,12 +48,12 @@ ours = record {
 
 -- any readings of 32 bits are those of some true counts, and the account of these is what each was told
 tight : (L M : Lending) → LentDemand3 L → LentDemand3 M → (rs : List Readings) (said said′ : List LossTold) (e e′ : LossSession)
-    → length rs ≤ 1000000001 → Small rs → LentRun L clearedSession rs said e → LentRun M clearedSession rs said′ e′
+    → length rs ≤ mostReadings → Small rs → LentRun L clearedSession rs said e → LentRun M clearedSession rs said′ e′
     → LentAlike said said′ e e′
 tight L M l m rs said said′ e e′ few small p q =
     let behind = shown-by-all rs small in
     let ts = behind .0 in
-    let count : length ts ≤ 1000000001 = omega (arith, few, sym (length-map ts shown) ∙ ap length (behind .1)) in
+    let count : length ts ≤ mostReadings = omega (arith, few, sym (length-map ts shown) ∙ ap length (behind .1)) in
     let are = sym (behind .1) in
     let a = l .agrees ts said e count (behind .2) (subst (λ (x : List Readings). LentRun L clearedSession x said e) are p) in
     let b = m .agrees ts said′ e′ count (behind .2) (subst (λ (x : List Readings). LentRun M clearedSession x said′ e′) are q) in

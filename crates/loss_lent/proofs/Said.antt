@@ -8,7 +8,7 @@ use Rattle.base_laws.specs.Tests.{choose}
 use Rattle.base_laws.proofs.Tests.{known}
 use Rattle.loss_session.specs.declared.Readings.{Readings}
 use Rattle.loss_session.specs.declared.LossSession.{LossSession}
-use Rattle.loss_session.specs.Session.{WellFormed, wellFormed}
+use Rattle.loss_session.specs.Session.{WellFormed, wellFormed, mostIntervals}
 use Rattle.loss_reading.specs.declared.LossTold.{LossTold}
 use Rattle.loss_reading.specs.Reading.{afterReading}
 use Rattle.loss_reading.specs.Told.{numbersOf}
@@ -30,7 +30,7 @@ module _ (s : LossSession) (r : Readings) where
   told-is (lent-2 n) = rw (unwell n) (refl, refl)
   told-is (lent-first w k) = rw (sessions .well s .1 w, k) (refl, refl)
   told-is (lent-later w k n) =
-      rw (sessions .well s .1 w, ne-eqb (s .kept) 0 (λ e. omega (arith, e, k)), ne-eqb (s .intervals) 1000000000 (λ e. omega (arith, e, n))) (refl, refl)
+      rw (sessions .well s .1 w, ne-eqb (s .kept) 0 (λ e. omega (arith, e, k)), ne-eqb (s .intervals) mostIntervals (λ e. omega (arith, e, n))) (refl, refl)
   told-is (lent-5 w k n) = rw (sessions .well s .1 w, ne-eqb (s .kept) 0 (λ e. omega (arith, e, k)), n) (refl, refl)
 
 -- the paper has a line for each case of a session

@@ -6,7 +6,7 @@ use mathlib.Core.List.{List, map}
 use lib.ListN.{length}
 use Rattle.loss_session.specs.declared.Readings.{Readings}
 use Rattle.loss_session.specs.declared.LossSession.{LossSession}
-use Rattle.loss_session.specs.Session.{Side, totalOf, clearedSession}
+use Rattle.loss_session.specs.Session.{Side, totalOf, clearedSession, mostReadings}
 use Rattle.loss_reading.specs.declared.LossTold.{LossTold}
 use Rattle.loss_reading.specs.Told.{told, refused}
 use Rattle.loss_account.specs.Account.{total}
@@ -27,11 +27,11 @@ pub record LentDemand3 (L : Lending) : Type 0 where
   pub answered : (s : LossSession) (r : Readings) → (t : LossTold) × (e : LossSession) × L s r t e
   -- take any run since the session was cleared, each call given the session that the last one left, with at most 1,000,000,001 readings:
   -- let each of the four be a true count modulo 2^32, and let none fall, or grow by 2^32 or more, from one reading to the next
-  pub agrees : (ts : List Counts) (said : List LossTold) (e : LossSession) → length ts ≤ 1000000001 → Steady ts
+  pub agrees : (ts : List Counts) (said : List LossTold) (e : LossSession) → length ts ≤ mostReadings → Steady ts
       → LentRun L clearedSession (map shown ts) said e → LentAgrees ts said e
   -- no further reading is accepted: it is refused with 5 and leaves what lies there
   pub later : (rs : List Readings) (said : List LossTold) (s : LossSession) (r : Readings) (t : LossTold) (e : LossSession)
-      → 1000000001 ≤ length rs → LentRun L clearedSession rs said s → L s r t e → (t ≡ refused 5) × (e ≡ s)
+      → mostReadings ≤ length rs → LentRun L clearedSession rs said s → L s r t e → (t ≡ refused 5) × (e ≡ s)
 
 -- two runs were told the same, and hold the same totals and intervals
 pub record LentAlike (said said′ : List LossTold) (e e′ : LossSession) : Type 0 where
@@ -43,5 +43,5 @@ pub record LentAlike (said said′ : List LossTold) (e e′ : LossSession) : Typ
 pub record LentMeets : Type 1 where
   pub ours : LentDemand3 Lent
   pub tight : (L M : Lending) → LentDemand3 L → LentDemand3 M → (rs : List Readings) (said said′ : List LossTold) (e e′ : LossSession)
-      → length rs ≤ 1000000001 → Small rs → LentRun L clearedSession rs said e → LentRun M clearedSession rs said′ e′
+      → length rs ≤ mostReadings → Small rs → LentRun L clearedSession rs said e → LentRun M clearedSession rs said′ e′
       → LentAlike said said′ e e′

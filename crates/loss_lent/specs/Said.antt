@@ -5,7 +5,7 @@ use mathlib.Core.Path.{_≡_}
 use lib.IntN.{pos}
 use Rattle.loss_session.specs.declared.Readings.{Readings}
 use Rattle.loss_session.specs.declared.LossSession.{LossSession}
-use Rattle.loss_session.specs.Session.{near, far, WellFormed}
+use Rattle.loss_session.specs.Session.{near, far, WellFormed, mostIntervals}
 use Rattle.loss_reading.specs.declared.LossTold.{LossTold}
 use Rattle.loss_reading.specs.Reading.{lossOn, firstOf, measuredOf}
 use Rattle.loss_reading.specs.Told.{refused, results}
@@ -18,10 +18,10 @@ pub data LentSaid (s : LossSession) (r : Readings) : LossTold → LossSession �
   -- the first after a clear is only kept, and its two results are 0
   lent-first : WellFormed s → s .kept ≡ 0 → LentSaid s r (results (pos 0) (pos 0)) (firstOf s r .session)
   -- later ones end an interval
-  lent-later : WellFormed s → s .kept ≡ 1 → s .intervals < 1000000000
+  lent-later : WellFormed s → s .kept ≡ 1 → s .intervals < mostIntervals
       → LentSaid s r (results (lossOn near (s .last) r) (lossOn far (s .last) r)) (measuredOf s r .session)
   -- 5: it would be interval 1,000,000,001
-  lent-5 : WellFormed s → s .kept ≡ 1 → s .intervals ≡ 1000000000 → LentSaid s r (refused 5) s
+  lent-5 : WellFormed s → s .kept ≡ 1 → s .intervals ≡ mostIntervals → LentSaid s r (refused 5) s
 
 -- whatever the paper says of a lent session, L tells and leaves
 abbrev pub FollowsLent : Lending → Type 0

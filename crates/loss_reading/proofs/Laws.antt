@@ -13,7 +13,7 @@ use Rattle.base_laws.proofs.Signed.{add-size}
 use Rattle.loss_growth.proofs.Growing.{loss-size}
 use Rattle.loss_session.specs.declared.Readings.{Readings}
 use Rattle.loss_session.specs.declared.LossSession.{LossSession}
-use Rattle.loss_session.specs.Session.{Side, near, far, sentOf, receivedOf, totalOf, WellFormed, wellFormed}
+use Rattle.loss_session.specs.Session.{Side, near, far, sentOf, receivedOf, totalOf, WellFormed, wellFormed, mostIntervals}
 use Rattle.loss_session.proofs.Laws.{well, cleared-well}
 use Rattle.loss_reading.specs.declared.LossAnswer.{LossAnswer}
 use Rattle.loss_reading.specs.declared.LossAnswer.the-variants.{NotWellFormed, Full, First, Measured}
@@ -32,20 +32,20 @@ module _ (s : LossSession) (r : Readings) where
   reading-first w k = rw (w, eq-eqb (s .kept) 0 k)
 
   module _ (w : wellFormed s ≡ true) (k : s .kept ≡ 0 → ⊥) where
-    pub reading-full : s .intervals ≡ 1000000000 → afterReading s r ≡ unchanged Full s
+    pub reading-full : s .intervals ≡ mostIntervals → afterReading s r ≡ unchanged Full s
     unfolding afterReading choose
-    reading-full e = rw (w, ne-eqb (s .kept) 0 k, eq-eqb (s .intervals) 1000000000 e)
+    reading-full e = rw (w, ne-eqb (s .kept) 0 k, eq-eqb (s .intervals) mostIntervals e)
 
-    pub reading-measured : (s .intervals ≡ 1000000000 → ⊥) → afterReading s r ≡ measuredOf s r
+    pub reading-measured : (s .intervals ≡ mostIntervals → ⊥) → afterReading s r ≡ measuredOf s r
     unfolding afterReading choose
-    reading-measured e = rw (w, ne-eqb (s .kept) 0 k, ne-eqb (s .intervals) 1000000000 e)
+    reading-measured e = rw (w, ne-eqb (s .kept) 0 k, ne-eqb (s .intervals) mostIntervals e)
 
 -- a session is one of these four, and the reading is answered so
 pub data Case (s : LossSession) (r : Readings) : Type 0 where
   bad : (WellFormed s → ⊥) → afterReading s r ≡ unchanged NotWellFormed s → Case s r
   begins : WellFormed s → s .kept ≡ 0 → afterReading s r ≡ firstOf s r → Case s r
-  stops : WellFormed s → s .kept ≡ 1 → s .intervals ≡ 1000000000 → afterReading s r ≡ unchanged Full s → Case s r
-  measures : WellFormed s → s .kept ≡ 1 → s .intervals < 1000000000 → afterReading s r ≡ measuredOf s r → Case s r
+  stops : WellFormed s → s .kept ≡ 1 → s .intervals ≡ mostIntervals → afterReading s r ≡ unchanged Full s → Case s r
+  measures : WellFormed s → s .kept ≡ 1 → s .intervals < mostIntervals → afterReading s r ≡ measuredOf s r → Case s r
 
 pub cases : (s : LossSession) (r : Readings) → Case s r
 cases s r = ⊎-elim good (λ f. bad (λ w. true≢false (sym (well s .1 w) ∙ f)) (reading-bad s r f)) (known (wellFormed s))
@@ -55,9 +55,9 @@ cases s r = ⊎-elim good (λ f. bad (λ w. true≢false (sym (well s .1 w) ∙ 
         let w = well s .0 t in
         let one : s .kept ≡ 1 = omega (arith, w .flag) in
         ⊎-elim
-        (λ (e : eqb (s .intervals) 1000000000 ≡ true). stops w one (eqb-true _ _ e) (reading-full s r t k (eqb-true _ _ e)))
-        (λ (e : eqb (s .intervals) 1000000000 ≡ false). measures w one (omega (arith, w .few, eqb-false (s .intervals) 1000000000 e)) (reading-measured s r t k (eqb-false _ _ e)))
-        (known (eqb (s .intervals) 1000000000))
+        (λ (e : eqb (s .intervals) mostIntervals ≡ true). stops w one (eqb-true _ _ e) (reading-full s r t k (eqb-true _ _ e)))
+        (λ (e : eqb (s .intervals) mostIntervals ≡ false). measures w one (omega (arith, w .few, eqb-false (s .intervals) mostIntervals e)) (reading-measured s r t k (eqb-false _ _ e)))
+        (known (eqb (s .intervals) mostIntervals))
 
     good : wellFormed s ≡ true → Case s r
     good t =
@@ -79,7 +79,7 @@ pub measured-total : (d : Side) (s : LossSession) (r : Readings) → totalOf d (
 measured-total near s r = refl
 measured-total far s r = refl
 
-pub measured-well : (s : LossSession) (r : Readings) → WellFormed s → s .kept ≡ 1 → s .intervals < 1000000000 → WellFormed (measuredOf s r .session)
+pub measured-well : (s : LossSession) (r : Readings) → WellFormed s → s .kept ≡ 1 → s .intervals < mostIntervals → WellFormed (measuredOf s r .session)
 measured-well s r w k few = record { flag = w .flag; few = omega arith; nothing = λ e. absurd (omega arith); total = bound }
   where
     bound : (d : Side) → natAbs (totalOf d (measuredOf s r .session)) ≤ (s .intervals + 1) * 4294967295
@@ -119,14 +119,14 @@ module _ (s : LossSession) (r : Readings) where
   from-2 (stops v k i e) w = absurd (w v)
   from-2 (measures v k i e) w = absurd (w v)
 
-  is-5 : Case s r → afterReading s r .answer ≡ Full → WellFormed s × (s .kept ≡ 1) × (s .intervals ≡ 1000000000)
+  is-5 : Case s r → afterReading s r .answer ≡ Full → WellFormed s × (s .kept ≡ 1) × (s .intervals ≡ mostIntervals)
   unfolding numbered
   is-5 (bad n e) a = absurd (let z : _≡_ {A = ℕ} 2 5 = ap (λ (u : Updated). numbered (u .answer)) (sym e) ∙ ap numbered a in omega arith)
   is-5 (begins v k e) a = absurd (let z : _≡_ {A = ℕ} 1 5 = ap (λ (u : Updated). numbered (u .answer)) (sym e) ∙ ap numbered a in omega arith)
   is-5 (stops v k i e) a = (v, k, i)
   is-5 (measures v k i e) a = absurd (let z : _≡_ {A = ℕ} 1 5 = ap (λ (u : Updated). numbered (u .answer)) (sym e) ∙ ap numbered a in omega arith)
 
-  from-5 : Case s r → WellFormed s → s .kept ≡ 1 → s .intervals ≡ 1000000000 → afterReading s r ≡ unchanged Full s
+  from-5 : Case s r → WellFormed s → s .kept ≡ 1 → s .intervals ≡ mostIntervals → afterReading s r ≡ unchanged Full s
   from-5 (bad n e) w k i = absurd (n w)
   from-5 (begins v z e) w k i = absurd (omega arith)
   from-5 (stops v z j e) w k i = e
@@ -138,7 +138,7 @@ module _ (s : LossSession) (r : Readings) where
   pub refused-2 : (WellFormed s → ⊥) → afterReading s r .session ≡ s
   refused-2 n = ap (λ (u : Updated). u .session) (from-2 (cases s r) n)
 
-  pub refuses-5 : (afterReading s r .answer ≡ Full) ↔ (WellFormed s × (s .kept ≡ 1) × (s .intervals ≡ 1000000000))
+  pub refuses-5 : (afterReading s r .answer ≡ Full) ↔ (WellFormed s × (s .kept ≡ 1) × (s .intervals ≡ mostIntervals))
   refuses-5 = (is-5 (cases s r), λ h. ap (λ (u : Updated). u .answer) (from-5 (cases s r) (h .0) (h .1) (h .2)))
 
   pub refused-5 : afterReading s r .answer ≡ Full → afterReading s r .session ≡ s

@@ -11,7 +11,7 @@ use Rattle.loss_session.specs.declared.LossSession.{LossSession}
 use Rattle.loss_reading.specs.declared.LossAnswer.{LossAnswer}
 use Rattle.loss_reading.specs.declared.LossAnswer.the-variants.{NotWellFormed, Full, First, Measured}
 use Rattle.loss_reading.specs.declared.Updated.{Updated}
-use Rattle.loss_session.specs.Session.{wellFormed}
+use Rattle.loss_session.specs.Session.{wellFormed, mostIntervals}
 use Rattle.loss_reading.specs.Reading.{unchanged, firstOf, measuredOf, afterReading}
 use Rattle.loss_reading.specs.Told.{told, numbersOf, LossNumbers}
 
@@ -20,7 +20,7 @@ pub told-numbers : (s : LossSession) (r : Readings) → told (afterReading s r .
 unfolding afterReading numbersOf choose told
 told-numbers s r =
     choose-map (λ (u : Updated). told (u .answer))
-    ((not (wellFormed s), unchanged NotWellFormed s) ∷ (eqb (s .kept) 0, firstOf s r) ∷ (eqb (s .intervals) 1000000000, unchanged Full s) ∷ [])
+    ((not (wellFormed s), unchanged NotWellFormed s) ∷ (eqb (s .kept) 0, firstOf s r) ∷ (eqb (s .intervals) mostIntervals, unchanged Full s) ∷ [])
     (measuredOf s r)
 
 zeros : (a : LossAnswer) → ((told a .refusal ≡ 0) → ⊥) → (told a .near ≡ pos 0) × (told a .far ≡ pos 0)

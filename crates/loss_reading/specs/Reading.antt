@@ -10,7 +10,7 @@ use Rattle.base_laws.specs.Tests.{choose}
 use Rattle.loss_growth.specs.Growth.{lossBetween}
 use Rattle.loss_session.specs.declared.Readings.{Readings}
 use Rattle.loss_session.specs.declared.LossSession.{LossSession}
-use Rattle.loss_session.specs.Session.{Side, near, far, sentOf, receivedOf, clearedSession, WellFormed, wellFormed}
+use Rattle.loss_session.specs.Session.{Side, near, far, sentOf, receivedOf, clearedSession, WellFormed, wellFormed, mostIntervals}
 use Rattle.loss_reading.specs.declared.LossAnswer.{LossAnswer}
 use Rattle.loss_reading.specs.declared.LossAnswer.the-variants.{NotWellFormed, Full, First, Measured}
 use Rattle.loss_reading.specs.declared.Updated.{Updated}
@@ -46,7 +46,7 @@ afterReading s r =
     choose (
     (not (wellFormed s), unchanged NotWellFormed s)
     ∷ (eqb (s .kept) 0, firstOf s r)
-    ∷ (eqb (s .intervals) 1000000000, unchanged Full s)
+    ∷ (eqb (s .intervals) mostIntervals, unchanged Full s)
     ∷ [])
     (measuredOf s r)
 
@@ -59,7 +59,7 @@ pub record Sessions : Type 0 where
   pub stays : (s : LossSession) (r : Readings) → WellFormed s → WellFormed (afterReading s r .session)
   -- refusal 2 exactly where a rule is broken, and 5 exactly where none is, a reading is kept and the intervals are all used
   pub refuses-2 : (s : LossSession) (r : Readings) → (afterReading s r .answer ≡ NotWellFormed) ↔ (WellFormed s → ⊥)
-  pub refuses-5 : (s : LossSession) (r : Readings) → (afterReading s r .answer ≡ Full) ↔ (WellFormed s × (s .kept ≡ 1) × (s .intervals ≡ 1000000000))
+  pub refuses-5 : (s : LossSession) (r : Readings) → (afterReading s r .answer ≡ Full) ↔ (WellFormed s × (s .kept ≡ 1) × (s .intervals ≡ mostIntervals))
   -- both leave the session as it was
   pub refused-2 : (s : LossSession) (r : Readings) → (WellFormed s → ⊥) → afterReading s r .session ≡ s
   pub refused-5 : (s : LossSession) (r : Readings) → afterReading s r .answer ≡ Full → afterReading s r .session ≡ s

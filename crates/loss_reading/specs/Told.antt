@@ -12,7 +12,7 @@ use Rattle.loss_session.specs.declared.LossSession.{LossSession}
 use Rattle.loss_reading.specs.declared.LossAnswer.{LossAnswer}
 use Rattle.loss_reading.specs.declared.LossAnswer.the-variants.{NotWellFormed, Full, First, Measured}
 use Rattle.loss_reading.specs.declared.LossTold.{LossTold}
-use Rattle.loss_session.specs.Session.{near, far, wellFormed}
+use Rattle.loss_session.specs.Session.{near, far, wellFormed, mostIntervals}
 use Rattle.loss_reading.specs.Reading.{lossOn}
 
 abbrev pub refused : ℕ → LossTold
@@ -33,7 +33,7 @@ numbersOf s r =
     choose (
     (not (wellFormed s), refused 2)
     ∷ (eqb (s .kept) 0, results (pos 0) (pos 0))
-    ∷ (eqb (s .intervals) 1000000000, refused 5)
+    ∷ (eqb (s .intervals) mostIntervals, refused 5)
     ∷ [])
     (results (lossOn near (s .last) r) (lossOn far (s .last) r))
 

@@ -10,7 +10,7 @@ use borrow.Author.Tests.{leb-true, le-leb, eqb-true, eqb-false, eq-eqb}
 use Rattle.base_laws.proofs.Tests.{known, both-true, either-true}
 use Rattle.loss_session.specs.declared.Readings.{Readings}
 use Rattle.loss_session.specs.declared.LossSession.{LossSession}
-use Rattle.loss_session.specs.Session.{Side, near, far, totalOf, noReadings, clearedSession, WellFormed, allZero, wellFormed}
+use Rattle.loss_session.specs.Session.{Side, near, far, totalOf, noReadings, clearedSession, WellFormed, allZero, wellFormed, mostIntervals}
 
 four-zeros : (a b c d : ℕ) → a ≡ 0 → b ≡ 0 → c ≡ 0 → d ≡ 0 → record { txf = a; rxf = b; txb = c; ours = d } ≡ noReadings
 four-zeros a b c d p q r t = rw (p, q, r, t)
@@ -32,7 +32,7 @@ module _ (s : LossSession) where
       let a = both-true _ (leb (natAbs (s .far)) (s .intervals * 4294967295)) .0 h in
       let b = both-true _ (leb (natAbs (s .near)) (s .intervals * 4294967295)) .0 (a .0) in
       let c = both-true _ (eqb (s .kept) 1 || eqb (s .intervals) 0 && allZero (s .last)) .0 (b .0) in
-      let d = both-true (leb (s .kept) 1) (leb (s .intervals) 1000000000) .0 (c .0) in
+      let d = both-true (leb (s .kept) 1) (leb (s .intervals) mostIntervals) .0 (c .0) in
       record { flag = leb-true _ _ (d .0); few = leb-true _ _ (d .1); nothing = none (c .1); total = bound (b .1) (a .1) }
     where
       none : (eqb (s .kept) 1 || eqb (s .intervals) 0 && allZero (s .last)) ≡ true → s .kept ≡ 0 → (s .intervals ≡ 0) × (s .last ≡ noReadings)
@@ -52,7 +52,7 @@ module _ (s : LossSession) where
   well-from w =
       rw (
         le-leb (s .kept) 1 (w .flag),
-        le-leb (s .intervals) 1000000000 (w .few),
+        le-leb (s .intervals) mostIntervals (w .few),
         held,
         le-leb (natAbs (s .near)) (s .intervals * 4294967295) (w .total near),
         le-leb (natAbs (s .far)) (s .intervals * 4294967295) (w .total far),

@@ -1,5 +1,5 @@
 -- A loss session: cleared, and well formed. The paper, rule 7, and "Refusals". Definitions only.
-use Prim.Native.Nat.{ℕ, _*_, _≤_}
+use Prim.Native.Nat.{ℕ, _+_, _*_, _≤_}
 use mathlib.Core.Path.{_≡_}
 use mathlib.Core.Bool.{Bool, _&&_, _||_}
 use lib.Dec.{leb, eqb}
@@ -37,10 +37,17 @@ noReadings = record { txf = 0; rxf = 0; txb = 0; ours = 0 }
 abbrev pub clearedSession : LossSession
 clearedSession = record { kept = 0; intervals = 0; last = noReadings; near = pos 0; far = pos 0 }
 
+-- how many intervals a session counts at most, and so how many readings it takes
+abbrev pub mostIntervals : ℕ
+mostIntervals = 1000000000
+
+abbrev pub mostReadings : ℕ
+mostReadings = mostIntervals + 1
+
 -- the paper's rules for a session, one by one
 pub record WellFormed (s : LossSession) : Type 0 where
   pub flag : s .kept ≤ 1
-  pub few : s .intervals ≤ 1000000000
+  pub few : s .intervals ≤ mostIntervals
   pub nothing : s .kept ≡ 0 → (s .intervals ≡ 0) × (s .last ≡ noReadings)
   pub total : (d : Side) → natAbs (totalOf d s) ≤ s .intervals * 4294967295
 
@@ -51,7 +58,7 @@ allZero r = eqb (r .txf) 0 && eqb (r .rxf) 0 && eqb (r .txb) 0 && eqb (r .ours) 
 unfoldable pub wellFormed : LossSession → Bool
 wellFormed s =
     leb (s .kept) 1
-    && leb (s .intervals) 1000000000
+    && leb (s .intervals) mostIntervals
     && (eqb (s .kept) 1 || eqb (s .intervals) 0 && allZero (s .last))
     && leb (natAbs (s .near)) (s .intervals * 4294967295)
     && leb (natAbs (s .far)) (s .intervals * 4294967295)

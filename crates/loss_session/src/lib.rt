@@ -27,6 +27,9 @@ pub struct LossSession {
     pub far: i64,
 }
 
+// How many intervals a session counts at most: the definitions have theirs, `mostIntervals`.
+pub const MOST_INTERVALS: u32 = 1000000000;
+
 // How large a number is, its sign left out.
 fn size(x: i64) -> u64
     ensures { λ r. ⌜ r ≡ natAbs x ⌝ }
@@ -73,7 +76,7 @@ pub fn well_formed(s: LossSession) -> bool
     let far = size(s.far);
     let most = (s.intervals as u64) * 4294967295;
     (s.kept <= 1)
-        & (s.intervals <= 1000000000)
+        & (s.intervals <= MOST_INTERVALS)
         & ((s.kept == 1) | ((s.intervals == 0) & zero))
         & (near <= most)
         & (far <= most)

@@ -4,13 +4,14 @@ ghost use Prim.Native.Nat.{_<_};
 ghost use lib.IntN.{_+ℤ_};
 ghost use mir.Syntax.{w64};
 ghost use mir.Val.{SFits};
-ghost use Rattle.loss_session.specs.Session.{WellFormed};
+ghost use Rattle.loss_session.specs.Session.{WellFormed, mostIntervals};
 ghost use Rattle.loss_reading.specs.Reading.{measuredOf, afterReading};
 ghost use Rattle.loss_reading.specs.Told.{told, numbersOf};
 use loss_growth::loss_between;
 use loss_reading::LossAnswer;
 use loss_reading::Updated;
 use loss_session::LossSession;
+use loss_session::MOST_INTERVALS;
 use loss_session::Readings;
 use loss_session::well_formed;
 
@@ -25,7 +26,7 @@ fn plus(total: i64, loss: i64) -> i64
 // The interval from the kept reading to this one.
 fn measured(s: LossSession, r: Readings) -> Updated
     requires { ⌜ WellFormed s ⌝ }
-    requires { ⌜ s .intervals < 1000000000 ⌝ }
+    requires { ⌜ s .intervals < mostIntervals ⌝ }
     ensures { λ u. ⌜ u ≡ measuredOf s r ⌝ }
 {
     let e = s.last;
@@ -61,7 +62,7 @@ pub fn take_reading(s: LossSession, r: Readings) -> Updated
             session: next,
         };
     }
-    if s.intervals == 1000000000 {
+    if s.intervals == MOST_INTERVALS {
         return Updated {
             answer: LossAnswer::Full,
             session: s,

@@ -6,11 +6,11 @@ use native.Mathlib.Omega.{arith}
 use lib.ListN.{length, length-append}
 use Rattle.base_laws.specs.Lists.{part, laid}
 use Rattle.base_laws.proofs.Lists.{length-part}
-use Rattle.base_octets.specs.Numbers.{inOctets, bigEndian}
-use Rattle.base_octets.proofs.Laws.{length-octets}
+use Rattle.base_numbers.specs.Numbers.{inOctets, bigEndian}
+use Rattle.base_numbers.proofs.Laws.{length-octets}
 use Rattle.frame_multicast.specs.Multicast.{multicastOf}
 use Rattle.base_bits.specs.Fields.{firstOctet, ccmFlags, mepId}
-use Rattle.state_settings.specs.Settings.{addressAt}
+use Rattle.state_settings.specs.Settings.{addressAt, nameOctets, megNamed, megOctets, megFrom}
 use Rattle.message_parts.specs.Messages.{count, afterDestination}
 use Rattle.base_laws.proofs.Pieces.{first, more}
 use Rattle.message_parts.proofs.Laid.{count-long, after-long, zeros}
@@ -34,12 +34,12 @@ pub lengths : Lengths
 lengths = record { ccm = ccm-long }
 
 -- our own address and the MEG ID among the names
-module _ (names : List ℕ) (whole : length names ≡ 60) where
+module _ (names : List ℕ) (whole : length names ≡ nameOctets) where
   pub own-long : length (addressAt 0 names) ≡ 6
   own-long = length-part 0 6 names (omega arith)
 
-  pub meg-long : length (part 12 48 names) ≡ 48
-  meg-long = length-part 12 48 names (omega arith)
+  pub meg-long : length (megNamed names) ≡ 48
+  meg-long = length-part megFrom megOctets names (omega arith)
 
 -- ── piece by piece ──
 

@@ -5,8 +5,9 @@ use mathlib.Core.Path.{_≡_}
 use mathlib.Core.List.{List, _++_}
 use lib.ListN.{length, replicate}
 use Rattle.base_bits.specs.Fields.{firstOctet, ccmFlags, mepId}
-use Rattle.base_octets.specs.Numbers.{inOctets, bigEndian}
+use Rattle.base_numbers.specs.Numbers.{inOctets, bigEndian}
 use Rattle.frame_multicast.specs.Multicast.{multicastOf}
+use Rattle.state_settings.specs.Settings.{ownNamed, megNamed}
 use Rattle.message_parts.specs.Messages.{count, afterDestination}
 use Rattle.message_ccm.specs.declared.CcmValues.{CcmValues}
 
@@ -28,6 +29,13 @@ ccmOctets source meg c =
     ++ afterDestination source (firstOctet (c .level) 0) 1 (ccmFlags (c .rdi) (c .period)) 70
     ++ ccmFixed meg c
 
--- how long it is
+-- with our own address and MEG ID, as they lie among the names
+abbrev pub ccmNamed : List ℕ → CcmValues → List ℕ
+ccmNamed names c = ccmOctets (ownNamed names) (megNamed names) c
+
+-- how long it is, an address being 6 and a MEG ID 48
+abbrev pub ccmLength : ℕ
+ccmLength = 89
+
 pub record Lengths : Type 0 where
-  pub ccm : (source meg : List ℕ) (c : CcmValues) → length source ≡ 6 → length meg ≡ 48 → length (ccmOctets source meg c) ≡ 89
+  pub ccm : (source meg : List ℕ) (c : CcmValues) → length source ≡ 6 → length meg ≡ 48 → length (ccmOctets source meg c) ≡ ccmLength

@@ -5,18 +5,24 @@ ghost use Prim.Native.Nat.{_≤_};
 ghost use lib.ListN.{length};
 ghost use Rattle.base_laws.specs.Lists.{part, laid};
 ghost use Rattle.frame_head.specs.Head.{behindHead};
-ghost use Rattle.state_settings.specs.Settings.{addressAt};
 ghost use Rattle.message_parts.specs.Buffer.{writtenOf, bufferOf, told, numbersOf};
-ghost use Rattle.message_ccm.specs.Continuity.{ccmFixed, ccmOctets};
+ghost use Rattle.message_ccm.specs.Continuity.{ccmFixed, ccmNamed, ccmLength};
 use base_bits::ccm_flags;
 use base_bits::first_octet;
 use base_bits::mep_id_of;
-use base_octets::numbers::write_big;
-use base_octets::parts::copy_octets;
-use frame_head::head::HEAD_LENGTH;
+use base_numbers::write_big;
+use base_octets::copy_octets;
+use frame_head::HEAD_LENGTH;
 use frame_multicast::multicast_of;
 use message_parts::parts::Written;
 use message_parts::parts::write_head;
+use state_settings::LOSSPEER;
+use state_settings::MEG;
+use state_settings::NAMES;
+use state_settings::Names;
+
+// How long a CCM is.
+pub const CCM_LENGTH: usize = 89;
 
 // What a CCM says beside our address and MEG ID: level, RDI (0 or 1), period code, sequence, MEP ID, and the counts
 //   txfcf   TxFCf, the frames that we had sent
@@ -49,24 +55,26 @@ fn write_ccm_fixed(into: &mut [u8], meg: &[u8], ccm: CcmValues)
 }
 
 // Writes a CCM to the multicast address of its level, with our own address and MEG ID.
-pub fn write_ccm(into: &mut [u8], names: &[u8; 60], ccm: CcmValues) -> Written
-    ensures { λ r. ⌜ (r ≡ writtenOf (ccmOctets (addressAt 0 (now (names .entry))) (part 12 48 (now (names .entry))) ccm) (now (into .entry))) × (told r ≡ numbersOf (ccmOctets (addressAt 0 (now (names .entry))) (part 12 48 (now (names .entry))) ccm) (now (into .entry))) ⌝ }
-    ensures { λ _. ⌜ (now (into .exit) ≡ bufferOf (ccmOctets (addressAt 0 (now (names .entry))) (part 12 48 (now (names .entry))) ccm) (now (into .entry))) × (length (ccmOctets (addressAt 0 (now (names .entry))) (part 12 48 (now (names .entry))) ccm) ≡ 89) ⌝ }
+pub fn write_ccm(into: &mut [u8], names: &Names, ccm: CcmValues) -> Written
+    ensures { λ r. ⌜ (r ≡ writtenOf (ccmNamed (now (names .entry)) ccm) (now (into .entry)))
+        × (told r ≡ numbersOf (ccmNamed (now (names .entry)) ccm) (now (into .entry))) ⌝ }
+    ensures { λ _. ⌜ (now (into .exit) ≡ bufferOf (ccmNamed (now (names .entry)) ccm) (now (into .entry)))
+        × (length (ccmNamed (now (names .entry)) ccm) ≡ ccmLength) ⌝ }
 {
     let all: &[u8] = names;
-    if into.len() < 89 {
+    if into.len() < CCM_LENGTH {
         return Written::NoRoom;
     }
     let group = multicast_of(ccm.level);
     copy_octets(into, 0, &group);
     write_head(
         into,
-        &all[..6],
+        &all[..LOSSPEER],
         first_octet(ccm.level, 0),
         1,
         ccm_flags(ccm.rdi, ccm.period),
         70,
     );
-    write_ccm_fixed(into, &all[12..60], ccm);
-    Written::Octets(89)
+    write_ccm_fixed(into, &all[MEG..NAMES], ccm);
+    Written::Octets(CCM_LENGTH)
 }

@@ -8,8 +8,8 @@ use native.Mathlib.Omega.{arith}
 use lib.ListN.{length, set, replicate, length-append}
 use Rattle.base_laws.specs.Lists.{laid}
 use Rattle.base_laws.proofs.Pieces.{first, more, stored}
-use Rattle.base_octets.specs.Numbers.{inOctets, octetsLowestFirst, bigEndian}
-use Rattle.base_octets.proofs.Laws.{length-octets, big-next}
+use Rattle.base_numbers.specs.Numbers.{inOctets, octetsLowestFirst, bigEndian}
+use Rattle.base_numbers.proofs.Laws.{length-octets, big-next}
 use Rattle.base_stamp.specs.declared.Stamp.{Stamp}
 use Rattle.message_parts.specs.Messages.{count, stampOctets, afterDestination}
 

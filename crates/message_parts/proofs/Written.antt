@@ -18,6 +18,11 @@ differ : {k : ℕ} → NoRoom ≡ Octets k → ⊥
 unfolding told
 differ e = eqb-false 3 0 refl (ap (λ (w : Written). told w .refusal) e)
 
+-- and so are two lengths
+as-long : {k l : ℕ} → Octets k ≡ Octets l → k ≡ l
+unfolding told
+as-long e = ap (λ (w : Written). told w .length) e
+
 module _ (message buffer : List ℕ) (n : ℕ) (long : length message ≡ n) {written : Written} {after : List ℕ}
     (e : written ≡ writtenOf message buffer) (f : after ≡ bufferOf message buffer) where
   -- the answer and the buffer, by the test
@@ -37,12 +42,12 @@ module _ (message buffer : List ℕ) (n : ℕ) (long : length message ≡ n) {wr
       (λ (t : noRoom message buffer ≡ false). absurd (differ (sym h ∙ e ∙ ap answer t)))
       (known (noRoom message buffer))
 
-  pub some : {k : ℕ} → written ≡ Octets k → (n ≤ length buffer) × (after ≡ laid 0 message buffer)
+  pub some : {k : ℕ} → written ≡ Octets k → (n ≤ length buffer) × (after ≡ laid 0 message buffer) × (k ≡ n)
   unfolding answer content
   some h =
       ⊎-elim
       (λ (t : noRoom message buffer ≡ true). absurd (differ (sym (sym h ∙ e ∙ ap answer t))))
       (λ (t : noRoom message buffer ≡ false).
       let k = ltb-false (length buffer) (length message) t in
-      (omega arith, f ∙ ap content t))
+      (omega arith, f ∙ ap content t, as-long (sym h ∙ e ∙ ap answer t) ∙ long))
       (known (noRoom message buffer))

@@ -2,7 +2,7 @@
 -- "What is in a PDU". Definitions only.
 use Prim.Native.Nat.{ℕ}
 use mathlib.Core.List.{List, [], _∷_, _++_}
-use Rattle.base_octets.specs.Numbers.{inOctets, bigEndian}
+use Rattle.base_numbers.specs.Numbers.{inOctets, bigEndian}
 use Rattle.base_stamp.specs.declared.Stamp.{Stamp}
 
 -- a count of 32 bits as the wire has it

@@ -5,10 +5,10 @@ ghost use lib.ListN.{length};
 ghost use Rattle.base_laws.specs.Lists.{laid};
 ghost use Rattle.frame_head.specs.Head.{behindHead};
 ghost use Rattle.message_parts.specs.Messages.{stampOctets, afterDestination};
-use base_octets::numbers::write_big;
-use base_octets::parts::copy_octets;
+use base_numbers::write_big;
+use base_octets::copy_octets;
 use base_stamp::Stamp;
-use frame_head::head::HEAD_LENGTH;
+use frame_head::HEAD_LENGTH;
 
 // What writing a message is answered.
 pub enum Written {

@@ -10,7 +10,7 @@ use lib.Seq.{getD-append-add}
 use Rattle.base_laws.specs.Lists.{part}
 use Rattle.base_laws.proofs.Apart.{part-front}
 use Rattle.base_laws.proofs.Lists.{part-behind, part-all}
-use Rattle.base_octets.specs.Numbers.{inOctets, octetsLowestFirst, bigEndian}
+use Rattle.base_numbers.specs.Numbers.{inOctets, octetsLowestFirst, bigEndian}
 use Rattle.frame_opcodes.specs.Opcodes.{ruleOf, known}
 use Rattle.frame_tlvs.specs.declared.Place.{Place}
 use Rattle.frame_tlvs.specs.declared.Place.the-variants.{End}

@@ -10,7 +10,7 @@ use lib.Seq.{drop-drop, getD-drop}
 use Rattle.base_laws.specs.Lists.{part, laid}
 use Rattle.base_laws.proofs.Apart.{part-before, part-after, drop-after}
 use Rattle.base_laws.proofs.Lists.{length-laid, laid-back, laid-others, length-part, getD-part, part-drop}
-use Rattle.base_octets.specs.Numbers.{number, bigEndian}
+use Rattle.base_numbers.specs.Numbers.{number, bigEndian}
 use Rattle.frame_opcodes.specs.Opcodes.{ruleOf, known}
 use Rattle.frame_reader_answer.specs.declared.TlvAnswer.{TlvAnswer}
 use Rattle.frame_reader_answer.specs.declared.TlvAnswer.the-variants as tlv

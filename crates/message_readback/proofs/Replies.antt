@@ -11,7 +11,7 @@ use Rattle.base_laws.specs.Tests.{choose}
 use Rattle.base_laws.specs.Lists.{part, laid}
 use Rattle.base_laws.proofs.Apart.{part-before, part-after, drop-after, part-within}
 use Rattle.base_laws.proofs.Lists.{part-drop, part-all}
-use Rattle.base_octets.specs.Numbers.{number, bigEndian}
+use Rattle.base_numbers.specs.Numbers.{number, bigEndian}
 use Rattle.base_stamp.specs.declared.Stamp.{Stamp}
 use Rattle.base_stamp.specs.Stamps.{Wire}
 use Rattle.frame_opcodes.specs.declared.Handler.{Handler}
@@ -30,7 +30,10 @@ use Rattle.frame_loopback_alarm.specs.Fixed.{transactionOf}
 use Rattle.frame_measures.specs.Measures.{lossIn, noLoss, lossOf, delayIn, noDelay, delayOf}
 use Rattle.message_parts.specs.Messages.{count, stampOctets}
 use Rattle.message_parts.proofs.Laid.{count-long, stamp-long}
-use Rattle.message_reply.specs.Replies.{replyOctets, lbrOctets, lmrOctets, dmrOctets}
+use Rattle.message_reply.specs.Replies.{replyOctets}
+use Rattle.message_lbr.specs.Lbr.{lbrOctets}
+use Rattle.message_lmr.specs.Lmr.{lmrOctets}
+use Rattle.message_dmr.specs.Dmr.{dmrOctets}
 use Rattle.message_reply.specs.Replied.{cutOff}
 use Rattle.message_readback.specs.Heads.{Word}
 use Rattle.message_readback.specs.Replies.{Answers, RepliesBack}

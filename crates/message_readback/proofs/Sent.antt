@@ -13,8 +13,8 @@ use Rattle.base_laws.specs.Lists.{part}
 use Rattle.base_laws.proofs.Apart.{part-front}
 use Rattle.base_laws.proofs.Lists.{part-behind, part-all}
 use Rattle.base_bits.specs.Fields.{firstOctet, ccmFlags, mepId}
-use Rattle.base_octets.specs.Numbers.{number, numberLowestFirst, inOctets, bigEndian}
-use Rattle.base_octets.proofs.Laws.{length-octets, number-back}
+use Rattle.base_numbers.specs.Numbers.{number, numberLowestFirst, inOctets, bigEndian}
+use Rattle.base_numbers.proofs.Laws.{length-octets, number-back}
 use Rattle.base_stamp.specs.declared.Stamp.{Stamp}
 use Rattle.base_stamp.specs.Stamps.{notGiven, Wire}
 use Rattle.frame_opcodes.specs.Opcodes.{ruleOf}

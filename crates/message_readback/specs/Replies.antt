@@ -17,7 +17,9 @@ use Rattle.frame_message.specs.Good.{tlvsOf}
 use Rattle.frame_message.specs.Message.{messageOf}
 use Rattle.frame_loopback_alarm.specs.Fixed.{transactionOf}
 use Rattle.frame_measures.specs.Measures.{lossOf, delayOf}
-use Rattle.message_reply.specs.Replies.{lbrOctets, lmrOctets, dmrOctets}
+use Rattle.message_lbr.specs.Lbr.{lbrOctets}
+use Rattle.message_lmr.specs.Lmr.{lmrOctets}
+use Rattle.message_dmr.specs.Dmr.{dmrOctets}
 use Rattle.message_reply.specs.Replied.{cutOff}
 use Rattle.message_readback.specs.Heads.{Says, Word}
 

@@ -1,4 +1,4 @@
--- A reply laid over the buffer: the request first, and what differs laid inside it. Assumes nothing.
+-- A reply laid over the buffer: the request first, and what differs laid inside it, for any octets. Assumes nothing.
 use Prim.Native.Nat.{ℕ, _+_, _≤_}
 use mathlib.Core.Path.{_≡_, refl, ap, _∙_}
 use mathlib.Core.List.{List, [], _∷_}
@@ -6,16 +6,13 @@ use native.Mathlib.Omega.{arith}
 use lib.ListN.{length, set, take, drop}
 use Rattle.base_laws.specs.Lists.{part, laid}
 use Rattle.base_laws.proofs.Lists.{laid-inside, laid-one, length-laid, length-part}
-use Rattle.base_stamp.specs.declared.Stamp.{Stamp}
 use Rattle.frame_head.specs.Head.{sourceOf}
-use Rattle.message_parts.specs.Messages.{count, stampOctets}
-use Rattle.message_parts.proofs.Laid.{count-long, stamp-long}
-use Rattle.message_reply.specs.Replies.{replyOctets, lmrOctets, dmrOctets, Lengths}
+use Rattle.message_reply.specs.Replies.{replyOctets}
 
 -- ── how long they are ──
 
 -- n octets with m of them laid over
-kept : {n : ℕ} (at m : ℕ) (xs r : List ℕ) → length r ≡ n → length xs ≡ m → at + m ≤ n → length (laid at xs r) ≡ n
+pub kept : {n : ℕ} (at m : ℕ) (xs r : List ℕ) → length r ≡ n → length xs ≡ m → at + m ≤ n → length (laid at xs r) ≡ n
 kept at m xs r e f h = length-laid at xs r (omega arith) ∙ e
 
 module _ (own request : List ℕ) (h : length own ≡ 6) where
@@ -25,39 +22,18 @@ module _ (own request : List ℕ) (h : length own ≡ 6) where
       let to = kept 0 6 (sourceOf request) request refl (length-part 6 6 request (omega arith)) (omega arith) in
       kept 15 1 (opcode ∷ []) (laid 6 own (laid 0 (sourceOf request) request)) (kept 6 6 own (laid 0 (sourceOf request) request) to h (omega arith)) refl (omega arith)
 
-  pub lmr-long : (received sent : ℕ) → 30 ≤ length request → length (lmrOctets own received sent request) ≡ length request
-  unfolding lmrOctets
-  lmr-long received sent k =
-      let r = replyOctets own 42 request in
-      let one = kept 22 4 (count received) r (reply-long 42 (omega arith)) (count-long received) (omega arith) in
-      kept 26 4 (count sent) (laid 22 (count received) r) one (count-long sent) (omega arith)
-
-  pub dmr-long : (receive transmit : Stamp) → 50 ≤ length request → length (dmrOctets own receive transmit request) ≡ length request
-  unfolding dmrOctets
-  dmr-long receive transmit k =
-      let r = replyOctets own 46 request in
-      let one = kept 26 8 (stampOctets receive) r (reply-long 46 (omega arith)) (stamp-long receive) (omega arith) in
-      kept 34 8 (stampOctets transmit) (laid 26 (stampOctets receive) r) one (stamp-long transmit) (omega arith)
-
-pub lengths : Lengths
-lengths = record {
-  lbr = λ own request h k. reply-long own request h 2 k;
-  lmr = λ own request received sent h k. lmr-long own request h received sent k;
-  dmr = λ own request receive transmit h k. dmr-long own request h receive transmit k;
-}
-
--- ── the replies ──
+-- ── a reply ──
 
 -- x is l with the n octets of r laid over its front
-record Has (n : ℕ) (r l x : List ℕ) : Type 0 where
-  is : x ≡ laid 0 r l
-  long : length r ≡ n
+pub record Has (n : ℕ) (r l x : List ℕ) : Type 0 where
+  pub is : x ≡ laid 0 r l
+  pub long : length r ≡ n
 
-begun : (r l : List ℕ) {x : List ℕ} {n : ℕ} → x ≡ laid 0 r l → length r ≡ n → Has n r l x
+pub begun : (r l : List ℕ) {x : List ℕ} {n : ℕ} → x ≡ laid 0 r l → length r ≡ n → Has n r l x
 begun r l e h = record { is = e; long = h }
 
 -- and m octets laid inside them
-inside : {n : ℕ} {r l x y : List ℕ} (at m : ℕ) (xs : List ℕ) → n ≤ length l → Has n r l x → y ≡ laid at xs x → length xs ≡ m → at + m ≤ n
+pub inside : {n : ℕ} {r l x y : List ℕ} (at m : ℕ) (xs : List ℕ) → n ≤ length l → Has n r l x → y ≡ laid at xs x → length xs ≡ m → at + m ≤ n
     → Has n (laid at xs r) l y
 inside {n} {r} {l} at m xs h p e k f = record {
   is = e ∙ ap (laid at xs) (p .is) ∙ laid-inside at xs r l (omega (arith, p .long)) (omega (arith, p .long));
@@ -77,21 +53,3 @@ module _ (own request l : List ℕ) (h : length own ≡ 6) (room : length reques
       let p2 = inside 0 6 (take 6 (drop 6 request)) room p1 e2 (length-part 6 6 request (omega arith)) (omega arith) in
       let p3 = inside 6 6 own room p2 e3 h (omega arith) in
       inside 15 1 (opcode ∷ []) room p3 (laid-one 15 z opcode (omega (arith, as-long p3 room))) refl (omega arith) .is
-
-  pub lmr-laid : (received sent : ℕ) {x y z : List ℕ} → 30 ≤ length request
-      → x ≡ laid 0 (replyOctets own 42 request) l → y ≡ laid 22 (count received) x → z ≡ laid 26 (count sent) y
-      → z ≡ laid 0 (lmrOctets own received sent request) l
-  unfolding lmrOctets
-  lmr-laid received sent k e1 e2 e3 =
-      let p1 = begun (replyOctets own 42 request) l e1 (reply-long own request h 42 (omega arith)) in
-      let p2 = inside 22 4 (count received) room p1 e2 (count-long received) (omega arith) in
-      inside 26 4 (count sent) room p2 e3 (count-long sent) (omega arith) .is
-
-  pub dmr-laid : (receive transmit : Stamp) {x y z : List ℕ} → 50 ≤ length request
-      → x ≡ laid 0 (replyOctets own 46 request) l → y ≡ laid 26 (stampOctets receive) x → z ≡ laid 34 (stampOctets transmit) y
-      → z ≡ laid 0 (dmrOctets own receive transmit request) l
-  unfolding dmrOctets
-  dmr-laid receive transmit k e1 e2 e3 =
-      let p1 = begun (replyOctets own 46 request) l e1 (reply-long own request h 46 (omega arith)) in
-      let p2 = inside 26 8 (stampOctets receive) room p1 e2 (stamp-long receive) (omega arith) in
-      inside 34 8 (stampOctets transmit) room p2 e3 (stamp-long transmit) (omega arith) .is

@@ -1,16 +1,8 @@
--- Two outcomes that a contract allows are equal: one result, and one content of the buffer. Stated over `Reads.Post`, which the check
--- reads off the source's own clauses. Assumes nothing.
+-- Two outcomes that a contract allows are equal: one content of the buffer. Stated over `Reads.Post`, which the check reads off the
+-- source's own clauses. Assumes nothing.
 use mathlib.Core.Path.{_≡_, sym, _∙_}
 use denote.Ref.{now}
-use Rattle.message_reply.proofs.write_lbr.Reads as write-lbr
-use Rattle.message_reply.proofs.write_lmr.Reads as write-lmr
-use Rattle.message_reply.proofs.write_dmr.Reads as write-dmr
+use Rattle.message_reply.proofs.write_reply.Reads as write-reply
 
-pub write-lbr-one : (κs : _) (a : _) (r r′ : _) (s s′ : _) → write-lbr.Post κs a r s → write-lbr.Post κs a r′ s′ → (r ≡ r′) × (now (s .0) ≡ now (s′ .0))
-write-lbr-one κs a r r′ s s′ p q = (p .0 .0 ∙ sym (q .0 .0), p .1 ∙ sym (q .1))
-
-pub write-lmr-one : (κs : _) (a : _) (r r′ : _) (s s′ : _) → write-lmr.Post κs a r s → write-lmr.Post κs a r′ s′ → (r ≡ r′) × (now (s .0) ≡ now (s′ .0))
-write-lmr-one κs a r r′ s s′ p q = (p .0 .0 ∙ sym (q .0 .0), p .1 ∙ sym (q .1))
-
-pub write-dmr-one : (κs : _) (a : _) (r r′ : _) (s s′ : _) → write-dmr.Post κs a r s → write-dmr.Post κs a r′ s′ → (r ≡ r′) × (now (s .0) ≡ now (s′ .0))
-write-dmr-one κs a r r′ s s′ p q = (p .0 .0 ∙ sym (q .0 .0), p .1 ∙ sym (q .1))
+pub write-reply-one : (κs : _) (a : _) (r r′ : _) (s s′ : _) → write-reply.Post κs a r s → write-reply.Post κs a r′ s′ → now (s .0) ≡ now (s′ .0)
+write-reply-one κs a r r′ s s′ p q = p ∙ sym q

@@ -6,9 +6,9 @@ use native.Mathlib.Omega.{arith}
 use lib.ListN.{length, replicate, length-append}
 use Rattle.base_laws.specs.Lists.{laid}
 use Rattle.base_laws.proofs.Lists.{length-part}
-use Rattle.state_settings.specs.Settings.{addressAt}
-use Rattle.base_octets.specs.Numbers.{inOctets, bigEndian}
-use Rattle.base_octets.proofs.Laws.{length-octets}
+use Rattle.state_settings.specs.Settings.{addressAt, nameOctets}
+use Rattle.base_numbers.specs.Numbers.{inOctets, bigEndian}
+use Rattle.base_numbers.proofs.Laws.{length-octets}
 use Rattle.base_bits.specs.Fields.{firstOctet}
 use Rattle.base_stamp.specs.declared.Stamp.{Stamp}
 use Rattle.message_parts.specs.Messages.{count, stampOctets, afterDestination}
@@ -35,7 +35,7 @@ pub lengths : Lengths
 lengths = record { lmm = lmm-long; dmm = dmm-long }
 
 -- both addresses among the names
-module _ (names : List ℕ) (whole : length names ≡ 60) where
+module _ (names : List ℕ) (whole : length names ≡ nameOctets) where
   pub own-long : length (addressAt 0 names) ≡ 6
   own-long = length-part 0 6 names (omega arith)
 

@@ -6,6 +6,7 @@ use mathlib.Core.List.{List, _++_}
 use lib.ListN.{length, replicate}
 use Rattle.base_bits.specs.Fields.{firstOctet}
 use Rattle.base_stamp.specs.declared.Stamp.{Stamp}
+use Rattle.state_settings.specs.Settings.{ownNamed, losspeerNamed}
 use Rattle.message_parts.specs.Messages.{count, stampOctets, afterDestination}
 
 -- version 1, opcode 43, flags 0, offset 12: TxFCf, and zeros for RxFCf and TxFCb; then the End TLV
@@ -24,7 +25,20 @@ dmmOctets destination source level stamp =
     ++ stampOctets stamp
     ++ replicate 25 0
 
--- how long they are
+-- from our own address to the loss peer's, as they lie among the names
+abbrev pub lmmNamed : List ℕ → ℕ → ℕ → List ℕ
+lmmNamed names level sent = lmmOctets (losspeerNamed names) (ownNamed names) level sent
+
+abbrev pub dmmNamed : List ℕ → ℕ → Stamp → List ℕ
+dmmNamed names level stamp = dmmOctets (losspeerNamed names) (ownNamed names) level stamp
+
+-- how long they are, an address being 6
+abbrev pub lmmLength : ℕ
+lmmLength = 31
+
+abbrev pub dmmLength : ℕ
+dmmLength = 51
+
 pub record Lengths : Type 0 where
-  pub lmm : (destination source : List ℕ) (level sent : ℕ) → length destination ≡ 6 → length source ≡ 6 → length (lmmOctets destination source level sent) ≡ 31
-  pub dmm : (destination source : List ℕ) (level : ℕ) (stamp : Stamp) → length destination ≡ 6 → length source ≡ 6 → length (dmmOctets destination source level stamp) ≡ 51
+  pub lmm : (destination source : List ℕ) (level sent : ℕ) → length destination ≡ 6 → length source ≡ 6 → length (lmmOctets destination source level sent) ≡ lmmLength
+  pub dmm : (destination source : List ℕ) (level : ℕ) (stamp : Stamp) → length destination ≡ 6 → length source ≡ 6 → length (dmmOctets destination source level stamp) ≡ dmmLength

@@ -13,7 +13,7 @@ use Rattle.base_laws.specs.Lists.{part}
 use Rattle.base_laws.proofs.Apart.{part-front}
 use Rattle.base_laws.proofs.Lists.{part-behind}
 use Rattle.base_bits.specs.Fields.{firstOctet, mepId}
-use Rattle.base_octets.specs.Numbers.{number, bigEndian}
+use Rattle.base_numbers.specs.Numbers.{number, bigEndian}
 use Rattle.frame_opcodes.specs.Opcodes.{ruleOf}
 use Rattle.frame_reader_answer.specs.declared.TlvTold.{TlvTold}
 use Rattle.frame_head.specs.Head.{etherTypeOf, pduOf, opcodeOf, flagsOf, offsetOf}

@@ -14,7 +14,7 @@ use Rattle.call_setting.specs.Start.{startOf}
 use Rattle.call_conditions.specs.Conditions.{conditionsOf}
 use Rattle.call_tick.specs.Tick.{tickOf}
 use Rattle.base_bits.specs.Fields.{firstOctet, mepId}
-use Rattle.base_octets.specs.Numbers.{number, bigEndian}
+use Rattle.base_numbers.specs.Numbers.{number, bigEndian}
 use Rattle.loss_session.specs.declared.Readings.{Readings}
 use Rattle.loss_growth.specs.Growth.{growth}
 use Rattle.loss_session.specs.Session.{readings, clearedSession}

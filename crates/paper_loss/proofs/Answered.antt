@@ -12,7 +12,7 @@ use borrow.Author.Tests.{eqb-true, eqb-false}
 use Rattle.base_laws.proofs.Tests.{known}
 use Rattle.loss_session.specs.declared.Readings.{Readings}
 use Rattle.loss_session.specs.declared.LossSession.{LossSession}
-use Rattle.loss_session.specs.Session.{near, far, clearedSession, WellFormed}
+use Rattle.loss_session.specs.Session.{near, far, clearedSession, WellFormed, mostIntervals, mostReadings}
 use Rattle.loss_reading.specs.Reading.{lossOn, afterReading}
 use Rattle.loss_session.proofs.Laws.{well, cleared-well}
 use Rattle.loss_reading.proofs.Laws.{stays, reading-first, reading-measured}
@@ -24,7 +24,7 @@ use Rattle.paper_loss.proofs.Step.{toldOf}
 -- room for m readings: an interval for each, and one reading more where none is kept
 record Room (x : LossSession) (m : ℕ) : Type 0 where
   pub fine : WellFormed x
-  pub fits : x .intervals + m ≤ 1000000000 + (1 - x .kept)
+  pub fits : x .intervals + m ≤ mostIntervals + (1 - x .kept)
 
 answered-from : (rs : List Readings) (x : LossSession) → Room x (length rs) → Each Measured (map toldOf (answers afterReading x rs))
 unfolding answers Each
@@ -42,10 +42,10 @@ answered-from (r ∷ rs) x h = go (λ z k. answered-from rs z k)
         (rw e (measured (pos 0) (pos 0)), again (afterReading x r .session) (record { fine = stays x r (h .fine); fits = rw e (omega (arith, h .fits, k, h .fine .nothing k .0)) })))
         (λ (t : eqb (x .kept) 0 ≡ false).
         let n = eqb-false (x .kept) 0 t in
-        let few : x .intervals < 1000000000 = omega (arith, h .fits, n) in
+        let few : x .intervals < mostIntervals = omega (arith, h .fits, n) in
         let e = reading-measured x r v n (λ q. omega (arith, few, q)) in
         (rw e (measured (lossOn near (x .last) r) (lossOn far (x .last) r)), again (afterReading x r .session) (record { fine = stays x r (h .fine); fits = rw e (omega (arith, h .fits, n)) })))
         (known (eqb (x .kept) 0))
 
-pub answered : (rs : List Readings) → length rs ≤ 1000000001 → Each Measured (map toldOf (answers afterReading clearedSession rs))
+pub answered : (rs : List Readings) → length rs ≤ mostReadings → Each Measured (map toldOf (answers afterReading clearedSession rs))
 answered rs few = answered-from rs clearedSession (record { fine = cleared-well; fits = omega (arith, few) })

@@ -19,11 +19,11 @@ use Rattle.loss_account.proofs.Meets as Account
 use Rattle.state_view.specs.State.{State}
 use Rattle.state_view.specs.Changed.{withSession}
 use Rattle.state_view.specs.WellFormed.{WellFormed}
+use Rattle.state_view.proofs.Rules.{session-put}
 use Rattle.state_settings.specs.Settings.{Settings}
 use Rattle.call_setting.specs.Start.{startOf}
 use Rattle.call_setting.proofs.Starts.{starts}
 use Rattle.paper_said.proofs.Started.{fresh-own}
-use Rattle.paper_promised.proofs.Kept.{session-put}
 use Rattle.paper_said.specs.Calls.{Arrival, Call, new-setting, frame, clear, Answer, leaves, OnWire, NoSetting, Box}
 use Rattle.paper_said.specs.Calls as told
 use Rattle.paper_said.specs.Said as paper

@@ -14,7 +14,7 @@ use Rattle.loss_session.specs.declared.LossSession.{LossSession}
 use Rattle.loss_reading.specs.declared.LossAnswer.{LossAnswer}
 use Rattle.loss_reading.specs.declared.LossAnswer.the-variants as answer
 use Rattle.loss_reading.specs.declared.Updated.{Updated}
-use Rattle.loss_session.specs.Session.{readings}
+use Rattle.loss_session.specs.Session.{readings, mostIntervals}
 use Rattle.loss_reading.specs.Reading.{afterReading}
 use Rattle.loss_session.proofs.Laws.{well}
 use Rattle.loss_reading.proofs.Laws.{reading-first, reading-full, reading-measured}
@@ -166,14 +166,14 @@ module _ (y : State) (a : Arrival) (l : LossReply y a) where
       let n = eqb-false (y .session .kept) 0 t in
       let k : y .session .kept ≡ 1 = omega (arith, n, x .flag) in
       ⊎-elim
-      (λ (q : eqb (y .session .intervals) 1000000000 ≡ true).
-      let f = eqb-true (y .session .intervals) 1000000000 q in
+      (λ (q : eqb (y .session .intervals) mostIntervals ≡ true).
+      let f = eqb-true (y .session .intervals) mostIntervals q in
       rw (reading-full (y .session) read v n f) (said.by-rules-5-to-8 (handling.frame-5 a l k f)))
-      (λ (q : eqb (y .session .intervals) 1000000000 ≡ false).
-      let f = eqb-false (y .session .intervals) 1000000000 q in
-      let few : y .session .intervals < 1000000000 = omega (arith, f, x .few) in
+      (λ (q : eqb (y .session .intervals) mostIntervals ≡ false).
+      let f = eqb-false (y .session .intervals) mostIntervals q in
+      let few : y .session .intervals < mostIntervals = omega (arith, f, x .few) in
       rw (reading-measured (y .session) read v n f) (said.by-rules-5-to-8 (handling.rule-7-later a l k few)))
-      (known (eqb (y .session .intervals) 1000000000)))
+      (known (eqb (y .session .intervals) mostIntervals)))
       (known (eqb (y .session .kept) 0))
 
 -- the step of a call that is none of the three, by the sentence that the paper says of it

@@ -6,8 +6,10 @@ use native.Mathlib.Omega.{arith}
 use native.Mathlib.Nat.{pow-le-pow-right}
 use lib.ListN.{length, take, drop}
 use Rattle.base_laws.specs.Lists.{every, part}
-use Rattle.base_octets.specs.Numbers.{number, bigEndian, Octets}
-use Rattle.base_octets.proofs.Laws.{number-below, part-octets}
+use Rattle.base_octets.specs.Octets.{Octets}
+use Rattle.base_numbers.specs.Numbers.{number, bigEndian}
+use Rattle.base_octets.proofs.Octets.{part-octets}
+use Rattle.base_numbers.proofs.Laws.{number-below}
 use Rattle.loss_session.specs.declared.Readings.{Readings}
 use Rattle.loss_session.specs.Session.{Side, near, far, readings, sentOf, receivedOf, totalOf}
 use Rattle.loss_account.specs.Account.{Truth}

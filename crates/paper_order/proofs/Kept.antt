@@ -8,10 +8,10 @@ use Rattle.loss_lent.proofs.Said.{lent-follows}
 use Rattle.loss_lent.proofs.Demand3.{lent-meets}
 use Rattle.paper_loss.proofs.Meets.{meets}
 use Rattle.paper_time.proofs.Timely.{timely}
-use Rattle.paper_reader.proofs.Reader.{reader-follows}
+use Rattle.paper_beside.proofs.Reader.{reader-follows}
 use Rattle.paper_order.specs.Order.{Order, Met}
 use Rattle.paper_order.proofs.Demand1.{demand-1, beside}
-use Rattle.paper_records.proofs.Records.{records-follow}
+use Rattle.paper_beside.proofs.Records.{records-follow}
 use Rattle.paper_order.proofs.Demand2.{demand-2}
 
 every : (B : Box) → Follows B → Order B

@@ -7,9 +7,9 @@ use Rattle.loss_lent.specs.Said.{LentFollows}
 use Rattle.loss_lent.specs.Demand3.{LentMeets}
 use Rattle.paper_loss.specs.Demand3.{Demand3}
 use Rattle.paper_time.specs.Time.{Time}
-use Rattle.paper_reader.specs.Reader.{ReaderFollows}
+use Rattle.paper_beside.specs.Reader.{ReaderFollows}
 use Rattle.paper_order.specs.Demand1.{Demand1, Beside}
-use Rattle.paper_records.specs.Records.{RecordsFollow}
+use Rattle.paper_beside.specs.Records.{RecordsFollow}
 use Rattle.paper_order.specs.Demand2.{Demand2}
 
 pub record Order (B : Box) : Type 0 where

@@ -12,13 +12,14 @@ use borrow.Author.Tests.{eqb-true, eqb-false, ltb-true, ltb-false, ne-eqb}
 use Rattle.base_laws.specs.Tests.{choose}
 use Rattle.base_laws.proofs.Tests.{known}
 use Rattle.base_period.specs.Periods.{ticksOf}
+use Rattle.loss_session.specs.Session.{mostIntervals}
 use Rattle.loss_session.specs.declared.Readings.{Readings}
 use Rattle.loss_session.specs.declared.LossSession.{LossSession}
 use Rattle.loss_session.specs.Session as Session
 use Rattle.loss_reading.specs.Reading.{afterReading}
 use Rattle.loss_reading.proofs.Laws.{sessions}
 use Rattle.state_view.specs.State.{State}
-use Rattle.state_view.specs.Changed.{Word, placeOf, anew, put, heard, withSession}
+use Rattle.state_view.specs.Changed.{Word, placeOf, anew, put, heard}
 use Rattle.state_view.specs.WellFormed.{ownMost, alarmMost, WellFormed}
 use Rattle.paper_said.specs.Made.{keptFirst, measured}
 
@@ -100,24 +101,6 @@ heard-well s k v flag used h f w = record {
 
 -- ── a session ──
 
-pub session-put : (s : State) (x : LossSession) → Session.WellFormed x → WellFormed s → WellFormed (withSession x s)
-session-put s x v w = record {
-  settings = w .settings;
-  timers = w .timers;
-  mismerge = w .mismerge;
-  unexpected-level = w .unexpected-level;
-  unexpected-mep = w .unexpected-mep;
-  unexpected-period = w .unexpected-period;
-  ais = w .ais;
-  lck = w .lck;
-  some-tick = w .some-tick;
-  next = w .next;
-  rdi = w .rdi;
-  no-timer = w .no-timer;
-  no-rdi = w .no-rdi;
-  session = v;
-}
-
 module _ (x : LossSession) (r : Readings) (v : Session.WellFormed x) where
   first-is : x .kept ≡ 0 → afterReading x r .session ≡ keptFirst x r
   unfolding afterReading choose
@@ -126,9 +109,9 @@ module _ (x : LossSession) (r : Readings) (v : Session.WellFormed x) where
   pub first-well : x .kept ≡ 0 → Session.WellFormed (keptFirst x r)
   first-well k = rw (← first-is k) (sessions .stays x r v)
 
-  later-is : x .kept ≡ 1 → x .intervals < 1000000000 → afterReading x r .session ≡ measured x r
+  later-is : x .kept ≡ 1 → x .intervals < mostIntervals → afterReading x r .session ≡ measured x r
   unfolding afterReading choose
-  later-is k n = rw (sessions .well x .1 v, ne-eqb (x .kept) 0 (λ z. omega arith), ne-eqb (x .intervals) 1000000000 (λ z. omega arith))
+  later-is k n = rw (sessions .well x .1 v, ne-eqb (x .kept) 0 (λ z. omega arith), ne-eqb (x .intervals) mostIntervals (λ z. omega arith))
 
-  pub later-well : x .kept ≡ 1 → x .intervals < 1000000000 → Session.WellFormed (measured x r)
+  pub later-well : x .kept ≡ 1 → x .intervals < mostIntervals → Session.WellFormed (measured x r)
   later-well k n = rw (← later-is k n) (sessions .stays x r v)

@@ -22,7 +22,7 @@ use Rattle.paper_said.specs.Called as calling
 use Rattle.paper_said.specs.Ours.{Follows}
 use Rattle.paper_said.proofs.Other.{isSetting, other}
 use Rattle.paper_promised.specs.Promised.{ShutOut}
-use Rattle.paper_promised.proofs.Promised.{isRefused}
+use Rattle.paper_promised.proofs.Apart.{isRefused}
 
 -- level 4, MEP ID 9, period code 1, one peer
 setting : Settings

@@ -12,12 +12,13 @@ use borrow.Author.Tests.{leb-true, ltb-true, ltb-false, lt-ltb, eqb-true, eqb-fa
 use Rattle.base_laws.specs.Lists.{same, placeOf, every}
 use Rattle.base_laws.proofs.Lists.{same-is, place-holds}
 use Rattle.base_laws.proofs.Tests.{known as if-known, split as both}
-use Rattle.base_octets.specs.Numbers.{Octets}
+use Rattle.base_octets.specs.Octets.{Octets}
 use Rattle.state_settings.specs.Settings.{Settings}
 use Rattle.state_settings.specs.Valid.{valid}
 use Rattle.state_settings.proofs.Rules.{valid-is}
 use Rattle.base_stamp.specs.declared.Stamp.{Stamp}
 use Rattle.base_stamp.specs.Stamps.{good}
+use Rattle.loss_session.specs.Session.{mostIntervals}
 use Rattle.receive_delay.specs.Used.{paired, usable, between}
 use Rattle.receive_delay.specs.Delays.{formed, held}
 use Rattle.frame_opcodes.specs.Opcodes.{ruleOf, handled}
@@ -33,7 +34,9 @@ use Rattle.state_view.specs.WellFormed.{WellFormed, wellFormed}
 use Rattle.state_view.proofs.Rules.{well-formed-is}
 use Rattle.receive_peer.specs.Peers.{usedPeers}
 use Rattle.receive_decide.specs.Decide.{isOurs}
-use Rattle.message_reply.specs.Replies.{lbrOctets, lmrOctets, dmrOctets}
+use Rattle.message_lbr.specs.Lbr.{lbrOctets}
+use Rattle.message_lmr.specs.Lmr.{lmrOctets}
+use Rattle.message_dmr.specs.Dmr.{dmrOctets}
 use Rattle.state_standing.specs.Standing.{standing}
 use Rattle.call_conditions.specs.Conditions.{shownOf}
 use Rattle.state_standing.proofs.Rules as Rules
@@ -164,9 +167,9 @@ module _ (s : State) (a : Arrival) (w : Octets (a .octets)) where
         (λ z.
         let n = eqb-false (s .session .kept) 0 z in
         let kept : s .session .kept ≡ 1 = one (s .session .kept) (x .flag) n in
-        split (ltb (s .session .intervals) 1000000000)
-        (λ t. (_, said.by-rules-5-to-8 (handling.rule-7-later a r kept (ltb-true (s .session .intervals) 1000000000 t))))
-        (λ t. let least = ltb-false (s .session .intervals) 1000000000 t in (_, said.by-rules-5-to-8 (handling.frame-5 a r kept (omega (arith, least, x .few)))))) where
+        split (ltb (s .session .intervals) mostIntervals)
+        (λ t. (_, said.by-rules-5-to-8 (handling.rule-7-later a r kept (ltb-true (s .session .intervals) mostIntervals t))))
+        (λ t. let least = ltb-false (s .session .intervals) mostIntervals t in (_, said.by-rules-5-to-8 (handling.frame-5 a r kept (omega (arith, least, x .few)))))) where
           one : (n : ℕ) → n ≤ 1 → (n ≡ 0 → ⊥) → n ≡ 1
           one n h k = split (eqb n 1) (eqb-true n 1) (λ f. absurd (k (let g = eqb-false n 1 f in split (ltb n 1) (λ t. let b = ltb-true n 1 t in omega (arith, b)) (λ t. let b = ltb-false n 1 t in absurd (g (omega (arith, b, h)))))))
 

@@ -7,7 +7,7 @@ use lib.Dec.{leb}
 use lib.ListN.{length, drop}
 use borrow.Author.Tests.{le-leb}
 use Rattle.base_laws.proofs.Tests.{join, known as if-known}
-use Rattle.base_octets.specs.Numbers.{Octets}
+use Rattle.base_octets.specs.Octets.{Octets}
 use Rattle.base_stamp.specs.Stamps.{good}
 use Rattle.frame_opcodes.specs.declared.Handler.{Handler}
 use Rattle.frame_opcodes.specs.Opcodes.{ruleOf}
@@ -35,15 +35,15 @@ use Rattle.paper_said.specs.Calls as call
 use Rattle.paper_said.specs.Calls.{Arrival, Outcome}
 use Rattle.paper_said.specs.Cases.{pdu, opcode, Heeded, OwnLevel}
 use Rattle.paper_said.specs.Drops.{Handled, D5, D6, Sound}
-use Rattle.paper_said.specs.Words.{sideOf}
-use Rattle.paper_said.specs.Ours.{afterFrame, ours}
+use Rattle.paper_said.specs.Words.{sideOf, frameAnswer}
+use Rattle.paper_said.specs.Ours.{inWords, ours}
 use Rattle.paper_said.proofs.Messages.{offset-bad, cut-off, judged, no-run-cuts, uncut, behind}
 use Rattle.paper_said.proofs.Rows.{row-least, row-handled, row-known, no-row}
 use Rattle.paper_said.proofs.Sixth.{ours-yes, ours-no}
 
 -- what a decision leaves of a frame
 abbrev pub decided : State → Arrival → Decision → Outcome
-decided s a d = afterFrame (carriedOut s (a .octets) (a .receive) (a .transmit) (a .buffer) d)
+decided s a d = inWords frameAnswer (carriedOut s (a .octets) (a .receive) (a .transmit) (a .buffer) d)
 
 abbrev pub decision : State → Arrival → Decision
 decision s a = decideOf (s .settings) (sideOf (a .side)) (a .octets) (a .receive)
@@ -52,7 +52,7 @@ module _ (s : State) (a : Arrival) where
   -- no refusal stands before the frame rules
   pub reached : Heeded s a → (d : Decision) → decision s a ≡ d → ours s (call.frame a) ≡ decided s a d
   reached h d e =
-      ap afterFrame
+      ap (inWords frameAnswer)
       (heeded s (sideOf (a .side)) (a .octets) (a .receive) (a .transmit) (a .buffer)
       (well-formed-is .well-formed-is s .1 (h .well))
       (join (leb 14 (length (a .octets))) (leb (length (a .octets)) 1514) (le-leb 14 (length (a .octets)) (h .long .least)) (le-leb (length (a .octets)) 1514 (h .long .most)))

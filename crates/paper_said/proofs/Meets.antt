@@ -11,13 +11,14 @@ use borrow.Author.Tests.{le-leb, leb-true, le-ltb, lt-ltb, eq-eqb, ne-eqb}
 use Rattle.base_laws.specs.Tests.{choose}
 use Rattle.base_laws.specs.Lists.{laid}
 use Rattle.base_laws.proofs.Tests.{join, split}
-use Rattle.base_octets.specs.Numbers.{Octets}
+use Rattle.base_octets.specs.Octets.{Octets}
 use Rattle.base_period.specs.Periods.{holdOf}
 use Rattle.loss_session.specs.Session as Session
 use Rattle.loss_reading.specs.Reading.{afterReading, lossOn}
 use Rattle.loss_reading.proofs.Laws as Loss
 use Rattle.receive_delay.specs.declared.DelayAnswer.{DelayAnswer}
 use Rattle.base_stamp.specs.Stamps.{good}
+use Rattle.loss_session.specs.Session.{mostIntervals}
 use Rattle.state_view.specs.State.{State}
 use Rattle.state_view.specs.Changed.{put, heard, withSession}
 use Rattle.state_view.specs.Changed as word
@@ -55,7 +56,7 @@ use Rattle.paper_said.specs.Taken.{PeerAt, OwnCcm, FromPeer}
 use Rattle.paper_said.specs.Made as made
 use Rattle.paper_said.specs.Taken as taken
 use Rattle.paper_said.specs.Words.{sideOf, frameAnswer}
-use Rattle.paper_said.specs.Ours.{afterFrame, ours}
+use Rattle.paper_said.specs.Ours.{inWords, ours}
 use Rattle.paper_said.proofs.Frames.{decided, reached, by, left, third, fourth, fifth, sixth, seventh, handles}
 use Rattle.paper_said.proofs.Stamps.{untrue}
 use Rattle.paper_said.proofs.Stamps as Stamps
@@ -82,13 +83,13 @@ module _ (s : State) (a : Arrival) where
   -- ── refusals before the frame rules ──
 
   pub frame-2 : (WellFormed s → ⊥) → ours s (call.frame a) ≡ leaves (refused 2) s (a .buffer)
-  frame-2 n = ap afterFrame (refused-2 s (sideOf (a .side)) (a .octets) (a .receive) (a .transmit) (a .buffer) (not-well s n))
+  frame-2 n = ap (inWords frameAnswer) (refused-2 s (sideOf (a .side)) (a .octets) (a .receive) (a .transmit) (a .buffer) (not-well s n))
 
   pub frame-1 : WellFormed s → (LengthGood a → ⊥) → ours s (call.frame a) ≡ leaves (refused 1) s (a .buffer)
-  frame-1 w n = ap afterFrame (refused-1 s (sideOf (a .side)) (a .octets) (a .receive) (a .transmit) (a .buffer) (well s w) (not-long a n))
+  frame-1 w n = ap (inWords frameAnswer) (refused-1 s (sideOf (a .side)) (a .octets) (a .receive) (a .transmit) (a .buffer) (well s w) (not-long a n))
 
   pub frame-6 : WellFormed s → LengthGood a → (good (a .receive) && good (a .transmit)) ≡ false → ours s (call.frame a) ≡ leaves (refused 6) s (a .buffer)
-  frame-6 w l g = ap afterFrame (refused-6 s (sideOf (a .side)) (a .octets) (a .receive) (a .transmit) (a .buffer) (well s w) (long a l) g)
+  frame-6 w l g = ap (inWords frameAnswer) (refused-6 s (sideOf (a .side)) (a .octets) (a .receive) (a .transmit) (a .buffer) (well s w) (long a l) g)
 
   pub second-bad : (x y : Bool) → y ≡ false → (x && y) ≡ false
   second-bad true y e = e
@@ -251,15 +252,15 @@ module _ (s : State) (a : Arrival) where
   unfolding carriedOut applied afterReading choose answerOf
   first-reading l k = counts l ∙ rw (session-well l, k)
 
-  pub later-reading : taken.LossReply s a → s .session .kept ≡ 1 → s .session .intervals < 1000000000
+  pub later-reading : taken.LossReply s a → s .session .kept ≡ 1 → s .session .intervals < mostIntervals
       → ours s (call.frame a)
       ≡ leaves (call.loss (lossOn Session.near (s .session .last) (made.reading s a)) (lossOn Session.far (s .session .last) (made.reading s a))) (withSession (made.measured (s .session) (made.reading s a)) s) (a .buffer)
   unfolding carriedOut applied afterReading choose answerOf
-  later-reading l k n = counts l ∙ rw (session-well l, ne-eqb (s .session .kept) 0 (λ z. omega arith), ne-eqb (s .session .intervals) 1000000000 (λ z. omega arith))
+  later-reading l k n = counts l ∙ rw (session-well l, ne-eqb (s .session .kept) 0 (λ z. omega arith), ne-eqb (s .session .intervals) mostIntervals (λ z. omega arith))
 
-  pub full : taken.LossReply s a → s .session .kept ≡ 1 → s .session .intervals ≡ 1000000000 → ours s (call.frame a) ≡ leaves (refused 5) s (a .buffer)
+  pub full : taken.LossReply s a → s .session .kept ≡ 1 → s .session .intervals ≡ mostIntervals → ours s (call.frame a) ≡ leaves (refused 5) s (a .buffer)
   unfolding carriedOut applied afterReading choose answerOf
-  full l k n = counts l ∙ rw (session-well l, ne-eqb (s .session .kept) 0 (λ z. omega arith), eq-eqb (s .session .intervals) 1000000000 n)
+  full l k n = counts l ∙ rw (session-well l, ne-eqb (s .session .kept) 0 (λ z. omega arith), eq-eqb (s .session .intervals) mostIntervals n)
 
   -- ── rule 8 ──
 

@@ -8,7 +8,7 @@ use native.Mathlib.Omega.{arith}
 use lib.Seq.{getD-drop}
 use lib.ListN.{length, drop, length-drop}
 use Rattle.base_laws.proofs.Tests.{known as if-known}
-use Rattle.base_octets.specs.Numbers.{Octets}
+use Rattle.base_octets.specs.Octets.{Octets}
 use Rattle.frame_opcodes.specs.Opcodes.{ruleOf, known}
 use Rattle.frame_reader_answer.specs.declared.Bad.the-variants.{Offset, CutOff}
 use Rattle.frame_tlvs.specs.declared.Place.{Place}

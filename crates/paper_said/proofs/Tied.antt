@@ -4,17 +4,17 @@ use mathlib.Core.Path.{_≡_, refl, sym, ap, ap₂, _∙_}
 use mathlib.Core.Bool.{Bool, true, false, cond}
 use mathlib.Core.List.{List, []}
 use denote.Ref.{now}
-use Rattle.base_octets.specs.Numbers.{Octets}
-use Rattle.base_octets.proofs.Laws.{part-octets}
-use Rattle.state_settings.specs.Settings.{slots, Settings, settingsOf, Shaped}
+use Rattle.base_octets.specs.Octets.{Octets}
+use Rattle.base_octets.proofs.Octets.{part-octets}
+use Rattle.state_settings.specs.Settings.{slots, Settings, settingsOf, Shaped, addressOctets, megOctets, ownFrom, losspeerFrom, megFrom}
 use Rattle.state_settings.specs.Valid.{valid}
 use Rattle.base_stamp.specs.declared.Stamp.{Stamp}
 use Rattle.state_view.specs.State.{State, lying, shown}
 use Rattle.receive_class.specs.declared.Side.{Side}
 use Rattle.receive_class.specs.declared.Side.the-variants as side
-use Rattle.call_setting_answer.specs.declared.SettingAnswer.{SettingAnswer}
-use Rattle.call_setting_answer.specs.declared.SettingTold.{SettingTold}
-use Rattle.call_setting_answer.specs.Told.{told}
+use Rattle.call_setting.specs.declared.SettingAnswer.{SettingAnswer}
+use Rattle.call_setting.specs.declared.SettingTold.{SettingTold}
+use Rattle.call_setting.specs.Told.{told}
 use Rattle.call_setting.specs.declared.Started.{Started}
 use Rattle.call_setting.specs.Start.{startOf, zeroState, afterSetting, answerOf, numbersOf}
 use Rattle.call_setting.proofs.Starts.{starts}
@@ -31,7 +31,7 @@ use Rattle.paper_said.specs.Calls as call
 use Rattle.paper_said.specs.Calls.{Arrival, Outcome, leaves, hands-out, FromArrays}
 use Rattle.paper_said.specs.Said.{Said}
 use Rattle.paper_said.specs.Words.{sideOf, settingAnswer, takenOver, frameAnswer, clearAnswer, tickAnswer, lmmAnswer, dmmAnswer, conditionsAnswer}
-use Rattle.paper_said.specs.Ours.{afterFrame, afterTick, afterClear, afterLmm, afterDmm}
+use Rattle.paper_said.specs.Ours.{inWords}
 use Rattle.paper_said.proofs.Follows.{ours-follows}
 
 -- the side of a call, from the function's
@@ -50,25 +50,25 @@ pub on-frame-follows : (κs : _) (a : _) (r : _) (s : _) → on-frame.Post κs a
     → Octets (now (a .1 .1 .1 .1 .1 .1 .1 .1 .0)) → Said (lying (a .0) (a .1 .0) (a .1 .1 .0) (a .1 .1 .1 .0) (a .1 .1 .1 .1 .0) (a .1 .1 .1 .1 .1 .0) (a .1 .1 .1 .1 .1 .1 .0)) (call.frame (arrival (a .1 .1 .1 .1 .1 .1 .1 .0) (now (a .1 .1 .1 .1 .1 .1 .1 .1 .0)) (a .1 .1 .1 .1 .1 .1 .1 .1 .1 .0) (a .1 .1 .1 .1 .1 .1 .1 .1 .1 .1 .0) (now (a .1 .1 .1 .1 .1 .1 .1 .1 .1 .1 .1 .0)))) o
     → leaves (frameAnswer r) (lying (a .0) (a .1 .0) (a .1 .1 .0) (s .1 .1 .1 .0) (s .1 .1 .1 .1 .0) (s .1 .1 .1 .1 .1 .0) (s .1 .1 .1 .1 .1 .1 .0)) (now (s .1 .1 .1 .1 .1 .1 .1 .1 .1 .1 .1 .0)) ≡ o
 on-frame-follows κs a r s p o w q =
-    ap afterFrame (p .0)
-    ∙ ap (λ (d : Side). afterFrame (frameOf (lying (a .0) (a .1 .0) (a .1 .1 .0) (a .1 .1 .1 .0) (a .1 .1 .1 .1 .0) (a .1 .1 .1 .1 .1 .0) (a .1 .1 .1 .1 .1 .1 .0)) d (now (a .1 .1 .1 .1 .1 .1 .1 .1 .0)) (a .1 .1 .1 .1 .1 .1 .1 .1 .1 .0) (a .1 .1 .1 .1 .1 .1 .1 .1 .1 .1 .0) (now (a .1 .1 .1 .1 .1 .1 .1 .1 .1 .1 .1 .0)))) (sym (side-back (a .1 .1 .1 .1 .1 .1 .1 .0)))
+    ap (inWords frameAnswer) (p .0)
+    ∙ ap (λ (d : Side). inWords frameAnswer (frameOf (lying (a .0) (a .1 .0) (a .1 .1 .0) (a .1 .1 .1 .0) (a .1 .1 .1 .1 .0) (a .1 .1 .1 .1 .1 .0) (a .1 .1 .1 .1 .1 .1 .0)) d (now (a .1 .1 .1 .1 .1 .1 .1 .1 .0)) (a .1 .1 .1 .1 .1 .1 .1 .1 .1 .0) (a .1 .1 .1 .1 .1 .1 .1 .1 .1 .1 .0) (now (a .1 .1 .1 .1 .1 .1 .1 .1 .1 .1 .1 .0)))) (sym (side-back (a .1 .1 .1 .1 .1 .1 .1 .0)))
     ∙ ours-follows .box .follows _ _ o (record { octets = w; receive = p .1 .1 .1 .0; transmit = p .1 .1 .1 .1 }) q
 
 pub tick-follows : (κs : _) (a : _) (r : _) (s : _) → tick.Post κs a r s → (o : Outcome) → Said (lying (a .0) (a .1 .0) (a .1 .1 .0) (a .1 .1 .1 .0) (a .1 .1 .1 .1 .0) (a .1 .1 .1 .1 .1 .0) (a .1 .1 .1 .1 .1 .1 .0)) (call.tick (now (a .1 .1 .1 .1 .1 .1 .1 .0))) o
     → leaves (tickAnswer r) (lying (a .0) (a .1 .0) (a .1 .1 .0) (s .1 .1 .1 .0) (a .1 .1 .1 .1 .0) (s .1 .1 .1 .1 .1 .0) (a .1 .1 .1 .1 .1 .1 .0)) (now (s .1 .1 .1 .1 .1 .1 .1 .0)) ≡ o
-tick-follows κs a r s p o q = ap afterTick (p .0 .0) ∙ ours-follows .box .follows _ _ o tt q
+tick-follows κs a r s p o q = ap (inWords tickAnswer) (p .0 .0) ∙ ours-follows .box .follows _ _ o tt q
 
 pub clear-follows : (κs : _) (a : _) (r : _) (s : _) → clear.Post κs a r s → (o : Outcome) → Said (lying (a .0) (a .1 .0) (a .1 .1 .0) (a .1 .1 .1 .0) (a .1 .1 .1 .1 .0) (a .1 .1 .1 .1 .1 .0) (a .1 .1 .1 .1 .1 .1 .0)) call.clear o
     → leaves (clearAnswer r) (lying (a .0) (a .1 .0) (a .1 .1 .0) (a .1 .1 .1 .0) (a .1 .1 .1 .1 .0) (s .1 .1 .1 .1 .1 .0) (s .1 .1 .1 .1 .1 .1 .0)) [] ≡ o
-clear-follows κs a r s p o q = ap afterClear (p .0 .0) ∙ ours-follows .box .follows _ _ o tt q
+clear-follows κs a r s p o q = ap (inWords clearAnswer) (p .0 .0) ∙ ours-follows .box .follows _ _ o tt q
 
 pub send-lmm-follows : (κs : _) (a : _) (r : _) (s : _) → send-lmm.Post κs a r s → (o : Outcome) → Said (lying (a .0) (a .1 .0) (a .1 .1 .0) (a .1 .1 .1 .0) (a .1 .1 .1 .1 .0) (a .1 .1 .1 .1 .1 .0) (a .1 .1 .1 .1 .1 .1 .0)) (call.send-LMM (now (a .1 .1 .1 .1 .1 .1 .1 .0))) o
     → leaves (lmmAnswer r) (lying (a .0) (a .1 .0) (a .1 .1 .0) (a .1 .1 .1 .0) (a .1 .1 .1 .1 .0) (a .1 .1 .1 .1 .1 .0) (a .1 .1 .1 .1 .1 .1 .0)) (now (s .1 .1 .1 .1 .1 .1 .1 .0)) ≡ o
-send-lmm-follows κs a r s p o q = ap (afterLmm (lying (a .0) (a .1 .0) (a .1 .1 .0) (a .1 .1 .1 .0) (a .1 .1 .1 .1 .0) (a .1 .1 .1 .1 .1 .0) (a .1 .1 .1 .1 .1 .1 .0))) (p .0) ∙ ours-follows .box .follows _ _ o tt q
+send-lmm-follows κs a r s p o q = ap (inWords lmmAnswer) (p .0) ∙ ours-follows .box .follows _ _ o tt q
 
 pub send-dmm-follows : (κs : _) (a : _) (r : _) (s : _) → send-dmm.Post κs a r s → (o : Outcome) → Said (lying (a .0) (a .1 .0) (a .1 .1 .0) (a .1 .1 .1 .0) (a .1 .1 .1 .1 .0) (a .1 .1 .1 .1 .1 .0) (a .1 .1 .1 .1 .1 .1 .0)) (call.send-DMM (a .1 .1 .1 .1 .1 .1 .1 .0) (now (a .1 .1 .1 .1 .1 .1 .1 .1 .0))) o
     → leaves (dmmAnswer r) (lying (a .0) (a .1 .0) (a .1 .1 .0) (a .1 .1 .1 .0) (a .1 .1 .1 .1 .0) (a .1 .1 .1 .1 .1 .0) (a .1 .1 .1 .1 .1 .1 .0)) (now (s .1 .1 .1 .1 .1 .1 .1 .1 .0)) ≡ o
-send-dmm-follows κs a r s p o q = ap (afterDmm (lying (a .0) (a .1 .0) (a .1 .1 .0) (a .1 .1 .1 .0) (a .1 .1 .1 .1 .0) (a .1 .1 .1 .1 .1 .0) (a .1 .1 .1 .1 .1 .1 .0))) (p .0 .0) ∙ ours-follows .box .follows _ _ o (p .1) q
+send-dmm-follows κs a r s p o q = ap (inWords dmmAnswer) (p .0 .0) ∙ ours-follows .box .follows _ _ o (p .1) q
 
 pub conditions-follows : (κs : _) (a : _) (r : _) (s : _) → conditions.Post κs a r s → (o : Outcome) → Said (lying (a .0) (a .1 .0) (a .1 .1 .0) (a .1 .1 .1 .0) (a .1 .1 .1 .1 .0) (a .1 .1 .1 .1 .1 .0) (a .1 .1 .1 .1 .1 .1 .0)) call.conditions o
     → leaves (conditionsAnswer r) (lying (a .0) (a .1 .0) (a .1 .1 .0) (a .1 .1 .1 .0) (a .1 .1 .1 .1 .0) (a .1 .1 .1 .1 .1 .0) (a .1 .1 .1 .1 .1 .1 .0)) [] ≡ o
@@ -76,7 +76,12 @@ conditions-follows κs a r s p o q = ap (λ (t : ConditionsTold). leaves (condit
 
 -- settings that lie in arrays have their lengths, and their octets are the names'
 pub from-arrays : (words names ids : List ℕ) → Shaped slots (settingsOf words names ids) → Octets names → FromArrays (settingsOf words names ids)
-from-arrays words names ids h w = record { shape = h; own = part-octets 0 6 names w; losspeer = part-octets 6 6 names w; meg = part-octets 12 48 names w }
+from-arrays words names ids h w = record {
+  shape = h;
+  own = part-octets ownFrom addressOctets names w;
+  losspeer = part-octets losspeerFrom addressOctets names w;
+  meg = part-octets megFrom megOctets names w;
+}
 
 -- what our box leaves of a new setting is what a caller holds who takes over what is handed out
 pub taken-over : (before : State) (t : Settings) → takenOver before (numbersOf t .refusal) (afterSetting t) ≡ cond (valid t) (startOf t) before

@@ -1,8 +1,8 @@
 -- Each case of each answer, by computing. Assumes nothing.
 use mathlib.Core.Path.{_≡_, refl}
-use Rattle.call_setting_answer.specs.declared.SettingAnswer.{SettingAnswer}
-use Rattle.call_setting_answer.specs.declared.SettingAnswer.the-variants as setting
-use Rattle.call_setting_answer.specs.Told as Setting
+use Rattle.call_setting.specs.declared.SettingAnswer.{SettingAnswer}
+use Rattle.call_setting.specs.declared.SettingAnswer.the-variants as setting
+use Rattle.call_setting.specs.Told as Setting
 use Rattle.receive_answer.specs.declared.FrameAnswer.{FrameAnswer}
 use Rattle.receive_answer.specs.declared.FrameAnswer.the-variants as answer
 use Rattle.receive_answer.specs.Told as Frame
@@ -45,7 +45,7 @@ unfolding tickTold
 of-tick ticked.NotWellFormed = refl
 of-tick ticked.NoRoom = refl
 of-tick ticked.Quiet = refl
-of-tick ticked.Sent = refl
+of-tick (ticked.Sent n) = refl
 
 of-clear : (r : ClearAnswer) → counted (Clear.told r .refusal) 0 0 ≡ numbersOf (clearAnswer r)
 unfolding Clear.told
@@ -56,14 +56,14 @@ of-lmm : (r : LmmAnswer) → counted (lmmTold r .refusal) 0 (lmmTold r .length) 
 unfolding lmmTold
 of-lmm lmm.NotWellFormed = refl
 of-lmm lmm.NoRoom = refl
-of-lmm lmm.Sent = refl
+of-lmm (lmm.Sent n) = refl
 
 of-dmm : (r : DmmAnswer) → counted (dmmTold r .refusal) 0 (dmmTold r .length) ≡ numbersOf (dmmAnswer r)
 unfolding dmmTold
 of-dmm dmm.NotWellFormed = refl
 of-dmm dmm.BadStamp = refl
 of-dmm dmm.NoRoom = refl
-of-dmm dmm.Sent = refl
+of-dmm (dmm.Sent n) = refl
 
 pub told-alike : ToldAlike
 told-alike = record { setting = of-setting; frame = of-frame; tick = of-tick; clear = of-clear; lmm = of-lmm; dmm = of-dmm }

@@ -3,7 +3,7 @@ use Prim.Native.Nat.{ℕ}
 use mathlib.Core.Path.{_≡_}
 use mathlib.Core.List.{List, []}
 use lib.IntN.{ℤ}
-use Rattle.base_octets.specs.Numbers.{Octets}
+use Rattle.base_octets.specs.Octets.{Octets}
 use Rattle.state_settings.specs.Settings.{slots, Settings, Shaped}
 use Rattle.state_view.specs.State.{State}
 use Rattle.base_stamp.specs.Stamps.{Wire}

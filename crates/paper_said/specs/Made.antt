@@ -14,7 +14,9 @@ use Rattle.frame_measures.specs.Measures.{lossIn}
 use Rattle.message_ccm.specs.Continuity.{ccmOctets}
 use Rattle.message_ccm.specs.declared.CcmValues.{CcmValues}
 use Rattle.message_requests.specs.Requests.{lmmOctets, dmmOctets}
-use Rattle.message_reply.specs.Replies.{lbrOctets, lmrOctets, dmrOctets}
+use Rattle.message_lbr.specs.Lbr.{lbrOctets}
+use Rattle.message_lmr.specs.Lmr.{lmrOctets}
+use Rattle.message_dmr.specs.Dmr.{dmrOctets}
 use Rattle.paper_said.specs.Calls.{Arrival}
 use Rattle.paper_said.specs.Cases.{pdu, opcode}
 

@@ -3,8 +3,8 @@
 use Prim.Native.Nat.{ℕ}
 use mathlib.Core.Path.{_≡_}
 use lib.IntN.{ℤ, pos}
-use Rattle.call_setting_answer.specs.Told as Setting
-use Rattle.call_setting_answer.specs.declared.SettingAnswer.{SettingAnswer}
+use Rattle.call_setting.specs.Told as Setting
+use Rattle.call_setting.specs.declared.SettingAnswer.{SettingAnswer}
 use Rattle.call_clear.specs.Clear as Clear
 use Rattle.call_clear.specs.declared.ClearAnswer.{ClearAnswer}
 use Rattle.call_send_answer.specs.Told.{tickTold, lmmTold, dmmTold}

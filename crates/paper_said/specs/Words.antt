@@ -3,8 +3,8 @@ use Prim.Native.Nat.{ℕ}
 use mathlib.Core.Bool.{cond}
 use lib.Dec.{eqb}
 use lib.IntN.{pos}
-use Rattle.call_setting_answer.specs.declared.SettingAnswer.the-variants as setting
-use Rattle.call_setting_answer.specs.declared.SettingAnswer.{SettingAnswer}
+use Rattle.call_setting.specs.declared.SettingAnswer.the-variants as setting
+use Rattle.call_setting.specs.declared.SettingAnswer.{SettingAnswer}
 use Rattle.call_clear.specs.declared.ClearAnswer.the-variants as cleared
 use Rattle.call_clear.specs.declared.ClearAnswer.{ClearAnswer}
 use Rattle.call_conditions.specs.declared.ConditionFlags.{ConditionFlags}
@@ -59,18 +59,18 @@ abbrev pub tickAnswer : TickAnswer → Answer
 tickAnswer ticked.NotWellFormed = refused 2
 tickAnswer ticked.NoRoom = refused 3
 tickAnswer ticked.Quiet = done
-tickAnswer ticked.Sent = written 89
+tickAnswer (ticked.Sent n) = written n
 
 abbrev pub lmmAnswer : LmmAnswer → Answer
 lmmAnswer lmm.NotWellFormed = refused 2
 lmmAnswer lmm.NoRoom = refused 3
-lmmAnswer lmm.Sent = written 31
+lmmAnswer (lmm.Sent n) = written n
 
 abbrev pub dmmAnswer : DmmAnswer → Answer
 dmmAnswer dmm.NotWellFormed = refused 2
 dmmAnswer dmm.BadStamp = refused 6
 dmmAnswer dmm.NoRoom = refused 3
-dmmAnswer dmm.Sent = written 51
+dmmAnswer (dmm.Sent n) = written n
 
 abbrev pub raised : ConditionFlags → Raised
 raised c = record {

@@ -8,7 +8,7 @@ use lib.IntN.{ℤ, pos, negsuc}
 use lib.ListN.{replicate}
 use Rattle.base_clock.specs.Run.{after}
 use Rattle.base_laws.specs.Lists.{every, everyPair, distinct, onFirst, part}
-use Rattle.base_octets.specs.Numbers.{number, numberLowestFirst}
+use Rattle.base_numbers.specs.Numbers.{number, numberLowestFirst}
 use Rattle.base_octets.proofs.Written.{octets-of}
 use Rattle.base_period.specs.Periods.{holdOf, ticksOf}
 use Rattle.state_settings.specs.Settings.{Settings}
@@ -28,7 +28,7 @@ use Rattle.state_view.specs.State.{State}
 use Rattle.state_view.specs.Changed.{put, withSession}
 use Rattle.state_view.specs.Changed as word
 use Rattle.state_view.specs.WellFormed.{WellFormed, wellFormed}
-use Rattle.state_view.proofs.Rules.{well-formed-is}
+use Rattle.state_view.proofs.Rules.{session-put, well-formed-is}
 use Rattle.call_setting.specs.Start.{startOf}
 use Rattle.call_setting.proofs.Starts.{starts}
 use Rattle.paper_said.specs.Calls as call
@@ -44,7 +44,7 @@ use Rattle.paper_said.specs.Made.{keptFirst}
 use Rattle.paper_said.specs.Ours.{ours}
 use Rattle.paper_said.proofs.Rows.{request-yes}
 use Rattle.paper_said.proofs.Follows.{ours-follows}
-use Rattle.paper_promised.proofs.Kept.{put-well, first-well, session-put}
+use Rattle.paper_promised.proofs.Kept.{put-well, first-well}
 use Rattle.paper_loss.specs.Runs.{answers, Each, NoClear, CountedFrom, Event, reply, received, Is, is-reply, is-received, Events, none, next, receivedIn}
 use Rattle.paper_loss.specs.Replies.{repliesIn, toReplies, Seen, refused, loss, silence, seen, SinceClear}
 use Rattle.paper_loss.specs.Demand3.{Demand3}

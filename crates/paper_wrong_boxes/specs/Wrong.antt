@@ -9,7 +9,7 @@ use lib.ListN.{length, take}
 use Rattle.state_settings.specs.Settings.{slots}
 use Rattle.loss_session.specs.declared.LossSession.{LossSession}
 use Rattle.state_view.specs.State.{State}
-use Rattle.state_view.specs.Changed.{withSession}
+use Rattle.state_view.specs.Changed.{withSlots, withSession}
 use Rattle.paper_said.specs.Calls.{new-setting, frame, tick, clear, send-LMM, send-DMM, conditions, Answer, refused, dropped, passed, taken, written, loss, delay, delays, done, standing, Outcome, leaves, Box}
 use Rattle.paper_said.specs.Ours.{ours}
 use Rattle.paper_loss.specs.Demand3.{Demand3}
@@ -47,21 +47,7 @@ invents s c = with-state (withSession (numbered 7 (ours s c .state .session)) (o
 
 -- counts every second frame that is received: a ninth timer stands while one is not counted
 abbrev pub timed : List ℕ → State → State
-timed timers s = record {
-  settings = s .settings;
-  timers = timers;
-  rdi = s .rdi;
-  mismerge = s .mismerge;
-  unexpected-level = s .unexpected-level;
-  unexpected-mep = s .unexpected-mep;
-  unexpected-period = s .unexpected-period;
-  ais = s .ais;
-  lck = s .lck;
-  next = s .next;
-  sent = s .sent;
-  received = s .received;
-  session = s .session;
-}
+timed timers s = withSlots timers (s .rdi) s
 
 abbrev second : State → Outcome → Bool → Outcome
 second s o true = with-state (timed (s .timers ++ (0 ∷ [])) s) o

@@ -2,6 +2,7 @@
 -- change nothing; a reply stands in the buffer, and refusal 3 touches nothing. Definitions only.
 use Prim.Native.Nat.{ℕ}
 use mathlib.Core.List.{List}
+use Rattle.base_laws.specs.Ended.{Ended, ended}
 use Rattle.base_stamp.specs.declared.Stamp.{Stamp}
 use Rattle.receive_delay.specs.declared.DelayAnswer.{DelayAnswer}
 use Rattle.receive_delay.specs.declared.DelayAnswer.the-variants as delay
@@ -9,19 +10,10 @@ use Rattle.state_view.specs.State.{State}
 use Rattle.receive_answer.specs.declared.Drop.the-variants.{Value, TooLarge}
 use Rattle.receive_answer.specs.declared.FrameAnswer.{FrameAnswer}
 use Rattle.receive_answer.specs.declared.FrameAnswer.the-variants.{Dropped, Passed, TwoWay, AllWays}
-use Rattle.receive_change.specs.Change.{Ended, applied}
+use Rattle.receive_change.specs.Change.{applied}
 use Rattle.receive_respond.specs.Respond.{respondedOf, leftAfter}
 use Rattle.receive_handle.specs.declared.Decision.{Decision}
 use Rattle.receive_handle.specs.declared.Decision.the-variants.{Drops, Passes, Changes, Replies, Delays}
-
--- all that a frame leaves
-pub record Framed : Type 0 where
-  pub answer : FrameAnswer
-  pub state : State
-  pub buffer : List ℕ
-
-abbrev pub framed : FrameAnswer → State → List ℕ → Framed
-framed answer state buffer = record { answer = answer; state = state; buffer = buffer }
 
 -- rule 8: D7, D8, or the delays
 unfoldable pub delayAnswer : DelayAnswer → FrameAnswer
@@ -31,12 +23,12 @@ delayAnswer (delay.TwoWay twoway) = TwoWay twoway
 delayAnswer (delay.AllWays twoway far near) = AllWays twoway far near
 
 -- an answer and a state, with the buffer as it was
-abbrev pub beside : List ℕ → Ended → Framed
-beside buffer e = framed (e .answer) (e .state) buffer
+abbrev pub beside : List ℕ → Ended State FrameAnswer → Ended State FrameAnswer
+beside buffer e = ended (e .answer) (e .state) buffer
 
-unfoldable pub carriedOut : State → List ℕ → Stamp → Stamp → List ℕ → Decision → Framed
-carriedOut s f receive transmit buffer (Drops drop) = framed (Dropped drop) s buffer
-carriedOut s f receive transmit buffer Passes = framed Passed s buffer
+unfoldable pub carriedOut : State → List ℕ → Stamp → Stamp → List ℕ → Decision → Ended State FrameAnswer
+carriedOut s f receive transmit buffer (Drops drop) = ended (Dropped drop) s buffer
+carriedOut s f receive transmit buffer Passes = ended Passed s buffer
 carriedOut s f receive transmit buffer (Changes change) = beside buffer (applied s change)
-carriedOut s f receive transmit buffer (Replies request) = framed (respondedOf s f receive transmit buffer request) s (leftAfter s f receive transmit buffer request)
-carriedOut s f receive transmit buffer (Delays answer) = framed (delayAnswer answer) s buffer
+carriedOut s f receive transmit buffer (Replies request) = ended (respondedOf s f receive transmit buffer request) s (leftAfter s f receive transmit buffer request)
+carriedOut s f receive transmit buffer (Delays answer) = ended (delayAnswer answer) s buffer

@@ -1,8 +1,9 @@
 // What was decided about a frame is carried out: the state is changed, a reply is written, or the frame is only answered.
 ghost use mathlib.Core.Path.{_≡_};
+ghost use Rattle.base_laws.specs.Ended.{ended};
 ghost use Rattle.state_view.specs.State.{before, after};
 ghost use Rattle.state_places.specs.Stored.{Whole};
-ghost use Rattle.receive_carry_out.specs.CarryOut.{delayAnswer, framed, carriedOut};
+ghost use Rattle.receive_carry_out.specs.CarryOut.{delayAnswer, carriedOut};
 use base_stamp::Stamp;
 use receive_answer::Drop;
 use receive_answer::FrameAnswer;
@@ -10,7 +11,11 @@ use receive_change::apply;
 use receive_delay::DelayAnswer;
 use receive_handle::Decision;
 use receive_respond::respond;
-use state_settings::PEERS;
+use state_settings::Names;
+use state_settings::Set;
+use state_settings::Slots;
+use state_view::Run;
+use state_view::Totals;
 
 // What a delay reply is answered, as a frame's answer.
 fn delay_answer(answer: DelayAnswer) -> FrameAnswer
@@ -26,20 +31,20 @@ fn delay_answer(answer: DelayAnswer) -> FrameAnswer
 
 // Does with a frame what was decided about it.
 pub fn carry_out(
-    set: &[u32; 4],
-    names: &[u8; 60],
-    ids: &[u32; PEERS],
-    timers: &mut [u32; PEERS],
-    rdi: &mut [u32; PEERS],
-    run: &mut [u32; 15],
-    totals: &mut [i64; 2],
+    set: &Set,
+    names: &Names,
+    ids: &Slots,
+    timers: &mut Slots,
+    rdi: &mut Slots,
+    run: &mut Run,
+    totals: &mut Totals,
     frame: &[u8],
     receive: Stamp,
     transmit: Stamp,
     decision: Decision,
     out: &mut [u8],
 ) -> FrameAnswer
-    ensures { λ r. ⌜ framed r (after set names ids timers rdi run totals) (now (out .exit)) ≡
+    ensures { λ r. ⌜ ended r (after set names ids timers rdi run totals) (now (out .exit)) ≡
         carriedOut (before set names ids timers rdi run totals) (now (frame .entry)) receive transmit (now (out .entry)) decision ⌝ }
     ensures { λ _. ⌜ Whole (now (run .exit)) (now (totals .exit)) ⌝ }
 {

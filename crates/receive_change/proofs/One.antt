@@ -2,8 +2,8 @@
 -- reads off the source's own clauses. Assumes nothing.
 use mathlib.Core.Path.{_≡_, sym, ap, _∙_}
 use denote.Ref.{now}
+use Rattle.base_laws.proofs.Ended.{answer-is, state-is}
 use Rattle.state_places.proofs.Stores.{stores}
-use Rattle.receive_change.specs.Change.{Ended}
 use Rattle.receive_change.proofs.apply.Reads as apply
 
 pub apply-one : (κs : _) (a : _) (r r′ : _) (s s′ : _) → apply.Post κs a r s → apply.Post κs a r′ s′
@@ -14,5 +14,5 @@ pub apply-one : (κs : _) (a : _) (r r′ : _) (s s′ : _) → apply.Post κs a
     × (now (s .1 .1 .1 .1 .1 .1 .0) ≡ now (s′ .1 .1 .1 .1 .1 .1 .0))
 apply-one κs a r r′ s s′ p q =
     let e = p .0 ∙ sym (q .0) in
-    let o = stores (now (a .0)) (now (a .1 .0)) (now (a .1 .1 .0)) .one (now (s .1 .1 .1 .0)) (now (s .1 .1 .1 .1 .0)) (now (s .1 .1 .1 .1 .1 .0)) (now (s .1 .1 .1 .1 .1 .1 .0)) (now (s′ .1 .1 .1 .0)) (now (s′ .1 .1 .1 .1 .0)) (now (s′ .1 .1 .1 .1 .1 .0)) (now (s′ .1 .1 .1 .1 .1 .1 .0)) (p .1) (q .1) (ap (λ (x : Ended). x .state) e) in
-    (ap (λ (x : Ended). x .answer) e, o .0, o .1, o .2, o .3)
+    let o = stores (now (a .0)) (now (a .1 .0)) (now (a .1 .1 .0)) .one (now (s .1 .1 .1 .0)) (now (s .1 .1 .1 .1 .0)) (now (s .1 .1 .1 .1 .1 .0)) (now (s .1 .1 .1 .1 .1 .1 .0)) (now (s′ .1 .1 .1 .0)) (now (s′ .1 .1 .1 .1 .0)) (now (s′ .1 .1 .1 .1 .1 .0)) (now (s′ .1 .1 .1 .1 .1 .1 .0)) (p .1) (q .1) (state-is e) in
+    (answer-is e, o .0, o .1, o .2, o .3)

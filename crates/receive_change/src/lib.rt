@@ -1,8 +1,10 @@
 // What a frame changes in a state, where it lies: the one place where a frame changes a state. Rules 1, 3, 5 and 7 of the paper.
+ghost use mathlib.Core.List.{[]};
 ghost use mathlib.Core.Path.{_≡_};
+ghost use Rattle.base_laws.specs.Ended.{ended};
 ghost use Rattle.state_view.specs.State.{before, after, afterSession};
 ghost use Rattle.state_places.specs.Stored.{Whole};
-ghost use Rattle.receive_change.specs.Change.{answerOf, readTaken, ended, oneMore, applied};
+ghost use Rattle.receive_change.specs.Change.{answerOf, readTaken, oneMore, applied};
 use base_period::hold_of;
 use loss_reading::LossAnswer;
 use loss_session::Readings;
@@ -12,10 +14,14 @@ use receive_answer::FrameAnswer;
 use receive_signals::Signal;
 use receive_signals::set_timers;
 use state_places::put_session;
-use state_settings::PEERS;
+use state_settings::Names;
 use state_settings::PERIOD;
+use state_settings::Set;
+use state_settings::Slots;
 use state_view::RECEIVED;
+use state_view::Run;
 use state_view::SENT;
+use state_view::Totals;
 use state_view::UNEXPECTED_LEVEL;
 use state_view::session_of;
 
@@ -53,18 +59,18 @@ fn answer_of(answer: LossAnswer) -> FrameAnswer
 
 // Takes the counts of a loss reply, with our received count beside them, into the session.
 fn take_counts(
-    set: &[u32; 4],
-    names: &[u8; 60],
-    ids: &[u32; PEERS],
-    timers: &[u32; PEERS],
-    rdi: &[u32; PEERS],
-    run: &mut [u32; 15],
-    totals: &mut [i64; 2],
+    set: &Set,
+    names: &Names,
+    ids: &Slots,
+    timers: &Slots,
+    rdi: &Slots,
+    run: &mut Run,
+    totals: &mut Totals,
     txf: u32,
     rxf: u32,
     txb: u32,
 ) -> FrameAnswer
-    ensures { λ r. ⌜ ended r (afterSession set names ids timers rdi run totals) ≡
+    ensures { λ r. ⌜ ended r (afterSession set names ids timers rdi run totals) [] ≡
         readTaken (before set names ids timers rdi run totals) txf rxf txb ⌝ }
     ensures { λ _. ⌜ Whole (now (run .exit)) (now (totals .exit)) ⌝ }
 {
@@ -83,16 +89,17 @@ fn take_counts(
 
 // Applies a change, and answers the frame.
 pub fn apply(
-    set: &[u32; 4],
-    names: &[u8; 60],
-    ids: &[u32; PEERS],
-    timers: &mut [u32; PEERS],
-    rdi: &mut [u32; PEERS],
-    run: &mut [u32; 15],
-    totals: &mut [i64; 2],
+    set: &Set,
+    names: &Names,
+    ids: &Slots,
+    timers: &mut Slots,
+    rdi: &mut Slots,
+    run: &mut Run,
+    totals: &mut Totals,
     change: Change,
 ) -> FrameAnswer
-    ensures { λ r. ⌜ ended r (after set names ids timers rdi run totals) ≡ applied (before set names ids timers rdi run totals) change ⌝ }
+    ensures { λ r. ⌜ ended r (after set names ids timers rdi run totals) [] ≡
+        applied (before set names ids timers rdi run totals) change ⌝ }
     ensures { λ _. ⌜ Whole (now (run .exit)) (now (totals .exit)) ⌝ }
 {
     // a view of an array tells its length, and costs nothing

@@ -3,9 +3,9 @@
 // of the PDU, and at nothing else.
 ghost use mathlib.Core.Path.{_≡_};
 ghost use Rattle.receive_class.specs.Class.{oamFrame, bySide, classOf};
-use base_octets::numbers::read_big;
-use frame_head::head::HEAD_LENGTH;
-use frame_level::level;
+use base_numbers::read_big;
+use frame_head::HEAD_LENGTH;
+use frame_head::level;
 
 // Where a frame comes from: the fibre, or the equipment behind the box.
 pub enum Side {

@@ -4,13 +4,13 @@ ghost use mathlib.Core.Path.{_≡_};
 ghost use Prim.Native.Nat.{_≤_};
 ghost use lib.ListN.{length};
 ghost use Rattle.frame_head.specs.Head.{behindHead};
-ghost use Rattle.state_settings.specs.Settings.{addressAt, settingsOf};
+ghost use Rattle.state_settings.specs.Settings.{lentSettings, ownNamed, losspeerNamed};
 ghost use Rattle.receive_decide.specs.Decide.{dropFor, isOurs, belowOf, ownOf, countOf, decideOf};
 use base_stamp::Stamp;
-use frame_addresses::destination;
-use frame_addresses::source;
-use frame_head::head::pdu_of;
-use frame_level::level;
+use frame_head::destination;
+use frame_head::level;
+use frame_head::pdu_of;
+use frame_head::source;
 use frame_message::good_opcode;
 use frame_message::message_answer;
 use frame_message_answer::MessageAnswer;
@@ -26,7 +26,11 @@ use receive_for_us::is_for_us;
 use receive_handle::Decision;
 use receive_handle::handle_message;
 use state_settings::LEVEL;
-use state_settings::PEERS;
+use state_settings::LOSSPEER;
+use state_settings::MEG;
+use state_settings::Names;
+use state_settings::Set;
+use state_settings::Slots;
 
 // The drop for what the reader finds; a length outside 14 to 1,514 is refused before.
 fn drop_for(bad: Bad) -> Drop
@@ -42,21 +46,28 @@ fn drop_for(bad: Bad) -> Drop
 }
 
 // Whether a frame is for us.
-fn for_us(names: &[u8; 60], frame: &[u8]) -> bool
+fn for_us(names: &Names, frame: &[u8]) -> bool
     requires { ⌜ behindHead 4 ≤ length (now frame) ⌝ }
-    ensures { λ r. ⌜ r ≡ isOurs (addressAt 0 (now (names .entry))) (addressAt 6 (now (names .entry))) (now (frame .entry)) ⌝ }
+    ensures { λ r. ⌜ r ≡ isOurs (ownNamed (now (names .entry))) (losspeerNamed (now (names .entry))) (now (frame .entry)) ⌝ }
 {
     let all: &[u8] = names;
     let pdu = pdu_of(frame);
     let to = destination(frame);
     let from = source(frame);
-    is_for_us(&all[..6], &all[6..12], pdu[1], level(frame), to, from)
+    is_for_us(
+        &all[..LOSSPEER],
+        &all[LOSSPEER..MEG],
+        pdu[1],
+        level(frame),
+        to,
+        from,
+    )
 }
 
 // Rule 3: a frame of a lower level is dropped; a good CCM for us is remembered.
-fn below(names: &[u8; 60], frame: &[u8]) -> Decision
+fn below(names: &Names, frame: &[u8]) -> Decision
     requires { ⌜ behindHead 4 ≤ length (now frame) ⌝ }
-    ensures { λ r. ⌜ r ≡ belowOf (addressAt 0 (now (names .entry))) (addressAt 6 (now (names .entry))) (now (frame .entry)) ⌝ }
+    ensures { λ r. ⌜ r ≡ belowOf (ownNamed (now (names .entry))) (losspeerNamed (now (names .entry))) (now (frame .entry)) ⌝ }
 {
     let ccm = good_opcode(frame) == 1;
     if ccm & for_us(names, frame) {
@@ -66,15 +77,9 @@ fn below(names: &[u8; 60], frame: &[u8]) -> Decision
 }
 
 // Rule 4: a frame of our own level. D3, then D4 and D5, then D6, then D7, then its handler.
-fn own_level(
-    set: &[u32; 4],
-    names: &[u8; 60],
-    ids: &[u32; PEERS],
-    frame: &[u8],
-    receive: Stamp,
-) -> Decision
+fn own_level(set: &Set, names: &Names, ids: &Slots, frame: &[u8], receive: Stamp) -> Decision
     requires { ⌜ behindHead 4 ≤ length (now frame) ⌝ }
-    ensures { λ r. ⌜ r ≡ ownOf (settingsOf (now (set .entry)) (now (names .entry)) (now (ids .entry))) (now (frame .entry)) receive ⌝ }
+    ensures { λ r. ⌜ r ≡ ownOf (lentSettings set names ids) (now (frame .entry)) receive ⌝ }
 {
     let pdu = pdu_of(frame);
     let rule = rule_of(pdu[1]);
@@ -114,14 +119,14 @@ fn count(side: Side) -> Change
 
 // Decides what is done with a frame.
 pub fn decide(
-    set: &[u32; 4],
-    names: &[u8; 60],
-    ids: &[u32; PEERS],
+    set: &Set,
+    names: &Names,
+    ids: &Slots,
     side: Side,
     frame: &[u8],
     receive: Stamp,
 ) -> Decision
-    ensures { λ r. ⌜ r ≡ decideOf (settingsOf (now (set .entry)) (now (names .entry)) (now (ids .entry))) side (now (frame .entry)) receive ⌝ }
+    ensures { λ r. ⌜ r ≡ decideOf (lentSettings set names ids) side (now (frame .entry)) receive ⌝ }
 {
     match class_of(set[LEVEL], side, frame) {
         Class::Service => Decision::Changes(count(side)),

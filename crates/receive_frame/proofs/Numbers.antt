@@ -4,6 +4,7 @@ use mathlib.Core.Path.{_≡_, refl, ap, _∙_}
 use mathlib.Core.Bool.{_&&_, not}
 use mathlib.Core.List.{List, [], _∷_}
 use lib.ListN.{length}
+use Rattle.base_laws.specs.Ended.{Ended}
 use Rattle.base_laws.specs.Tests.{choose}
 use Rattle.base_laws.proofs.Tests.{choose-map}
 use Rattle.loss_session.specs.declared.Readings.{Readings}
@@ -28,12 +29,13 @@ use Rattle.receive_change.specs.Change.{answerOf, applied}
 use Rattle.receive_change.specs.declared.Change.{Change}
 use Rattle.receive_change.specs.declared.Change.the-variants.{Sent, Received, UnexpectedLevel, Told, Reading}
 use Rattle.receive_respond.specs.Respond.{fixedFor, replyFor, answerFor, respondedOf}
-use Rattle.receive_carry_out.specs.CarryOut.{Framed, delayAnswer, carriedOut}
+use Rattle.receive_carry_out.specs.CarryOut.{delayAnswer, carriedOut}
 use Rattle.receive_handle.specs.declared.Decision.{Decision}
 use Rattle.receive_handle.specs.declared.Decision.the-variants.{Drops, Passes, Changes, Replies, Delays}
 use Rattle.receive_decide.specs.Decide.{decideOf}
 use Rattle.receive_frame.specs.Frame.{frameOf}
 use Rattle.receive_frame.specs.Numbers.{lossNumbers, changeNumbers, replyNumbers, delayNumbers, decisionNumbers, numbersOf, FramesTold}
+use Rattle.receive_answer.specs.declared.FrameAnswer.{FrameAnswer}
 
 loss-told : (s : LossSession) (r : Readings) → told (answerOf (afterReading s r .answer)) ≡ lossNumbers s r
 unfolding afterReading lossNumbers answerOf told
@@ -72,7 +74,7 @@ pub agree : (s : State) (side : Side) (f : List ℕ) (receive transmit : Stamp) 
     → told (frameOf s side f receive transmit buffer .answer) ≡ numbersOf s side f receive transmit buffer
 unfolding frameOf numbersOf told
 agree s side f receive transmit buffer =
-    choose-map (λ (x : Framed). told (x .answer)) _ _
+    choose-map (λ (x : Ended State FrameAnswer). told (x .answer)) _ _
     ∙ ap
     (λ (x : FrameTold).
     choose (

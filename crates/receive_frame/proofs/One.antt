@@ -2,8 +2,8 @@
 -- reads off the source's own clauses. Assumes nothing.
 use mathlib.Core.Path.{_≡_, sym, ap, _∙_}
 use denote.Ref.{now}
+use Rattle.base_laws.proofs.Ended.{answer-is, buffer-is, state-is}
 use Rattle.state_places.proofs.Stores.{stores}
-use Rattle.receive_carry_out.specs.CarryOut.{Framed}
 use Rattle.receive_frame.proofs.on_frame.Reads as on-frame
 
 pub on-frame-one : (κs : _) (a : _) (r r′ : _) (s s′ : _) → on-frame.Post κs a r s → on-frame.Post κs a r′ s′
@@ -15,5 +15,5 @@ pub on-frame-one : (κs : _) (a : _) (r r′ : _) (s s′ : _) → on-frame.Post
     × (now (s .1 .1 .1 .1 .1 .1 .1 .1 .1 .1 .1 .0) ≡ now (s′ .1 .1 .1 .1 .1 .1 .1 .1 .1 .1 .1 .0))
 on-frame-one κs a r r′ s s′ p q =
     let e = p .0 ∙ sym (q .0) in
-    let o = stores (now (a .0)) (now (a .1 .0)) (now (a .1 .1 .0)) .one (now (s .1 .1 .1 .0)) (now (s .1 .1 .1 .1 .0)) (now (s .1 .1 .1 .1 .1 .0)) (now (s .1 .1 .1 .1 .1 .1 .0)) (now (s′ .1 .1 .1 .0)) (now (s′ .1 .1 .1 .1 .0)) (now (s′ .1 .1 .1 .1 .1 .0)) (now (s′ .1 .1 .1 .1 .1 .1 .0)) (p .1 .1 .0) (q .1 .1 .0) (ap (λ (x : Framed). x .state) e) in
-    (ap (λ (x : Framed). x .answer) e, o .0, o .1, o .2, o .3, ap (λ (x : Framed). x .buffer) e)
+    let o = stores (now (a .0)) (now (a .1 .0)) (now (a .1 .1 .0)) .one (now (s .1 .1 .1 .0)) (now (s .1 .1 .1 .1 .0)) (now (s .1 .1 .1 .1 .1 .0)) (now (s .1 .1 .1 .1 .1 .1 .0)) (now (s′ .1 .1 .1 .0)) (now (s′ .1 .1 .1 .1 .0)) (now (s′ .1 .1 .1 .1 .1 .0)) (now (s′ .1 .1 .1 .1 .1 .1 .0)) (p .1 .1 .0) (q .1 .1 .0) (state-is e) in
+    (answer-is e, o .0, o .1, o .2, o .3, buffer-is e)

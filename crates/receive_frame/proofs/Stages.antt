@@ -7,6 +7,7 @@ use mathlib.Core.Logic.{⊎-elim}
 use lib.Dec.{ltb, leb}
 use lib.ListN.{length}
 use borrow.Author.Tests.{lt-leb, le-leb, ltb-true, ltb-false}
+use Rattle.base_laws.specs.Ended.{ended}
 use Rattle.base_laws.specs.Tests.{choose}
 use Rattle.base_laws.proofs.Tests.{known}
 use Rattle.base_stamp.specs.declared.Stamp.{Stamp}
@@ -17,7 +18,7 @@ use Rattle.state_view.specs.WellFormed.{wellFormed}
 use Rattle.receive_answer.specs.declared.FrameAnswer.the-variants.{NotWellFormed, BadLength, BadStamp}
 use Rattle.receive_class.specs.declared.Side.{Side}
 use Rattle.receive_decide.specs.Decide.{decideOf}
-use Rattle.receive_carry_out.specs.CarryOut.{framed, carriedOut}
+use Rattle.receive_carry_out.specs.CarryOut.{carriedOut}
 use Rattle.receive_frame.specs.Frame.{frameOf}
 
 -- not too short and not too long
@@ -37,15 +38,15 @@ pub outside : (f : List ℕ) → (ltb (length f) 14 || ltb 1514 (length f)) ≡ 
 outside f = inside (ltb (length f) 14) (ltb 1514 (length f)) ∙ rw (not-less (length f) 14, not-less 1514 (length f))
 
 module _ (s : State) (side : Side) (f : List ℕ) (receive transmit : Stamp) (buffer : List ℕ) where
-  pub refused-2 : wellFormed s ≡ false → frameOf s side f receive transmit buffer ≡ framed NotWellFormed s buffer
+  pub refused-2 : wellFormed s ≡ false → frameOf s side f receive transmit buffer ≡ ended NotWellFormed s buffer
   unfolding frameOf choose
   refused-2 w = rw w
 
-  pub refused-1 : wellFormed s ≡ true → lengthGood f ≡ false → frameOf s side f receive transmit buffer ≡ framed BadLength s buffer
+  pub refused-1 : wellFormed s ≡ true → lengthGood f ≡ false → frameOf s side f receive transmit buffer ≡ ended BadLength s buffer
   unfolding frameOf choose
   refused-1 w l = rw (w, l)
 
-  pub refused-6 : wellFormed s ≡ true → lengthGood f ≡ true → (good receive && good transmit) ≡ false → frameOf s side f receive transmit buffer ≡ framed BadStamp s buffer
+  pub refused-6 : wellFormed s ≡ true → lengthGood f ≡ true → (good receive && good transmit) ≡ false → frameOf s side f receive transmit buffer ≡ ended BadStamp s buffer
   unfolding frameOf choose
   refused-6 w l g = rw (w, l, g)
 

@@ -12,13 +12,15 @@ use Rattle.state_view.specs.WellFormed.{wellFormed}
 use Rattle.receive_answer.specs.declared.FrameAnswer.the-variants.{NotWellFormed, BadLength, BadStamp}
 use Rattle.receive_class.specs.declared.Side.{Side}
 use Rattle.receive_decide.specs.Decide.{decideOf}
-use Rattle.receive_carry_out.specs.CarryOut.{Framed, framed, carriedOut}
+use Rattle.base_laws.specs.Ended.{Ended, ended}
+use Rattle.receive_carry_out.specs.CarryOut.{carriedOut}
+use Rattle.receive_answer.specs.declared.FrameAnswer.{FrameAnswer}
 
-unfoldable pub frameOf : State → Side → List ℕ → Stamp → Stamp → List ℕ → Framed
+unfoldable pub frameOf : State → Side → List ℕ → Stamp → Stamp → List ℕ → Ended State FrameAnswer
 frameOf s side f receive transmit buffer =
     choose (
-    (not (wellFormed s), framed NotWellFormed s buffer)
-    ∷ (not (lengthGood f), framed BadLength s buffer)
-    ∷ (not (good receive && good transmit), framed BadStamp s buffer)
+    (not (wellFormed s), ended NotWellFormed s buffer)
+    ∷ (not (lengthGood f), ended BadLength s buffer)
+    ∷ (not (good receive && good transmit), ended BadStamp s buffer)
     ∷ [])
     (carriedOut s f receive transmit buffer (decideOf (s .settings) side f receive))

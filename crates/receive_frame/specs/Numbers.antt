@@ -9,7 +9,7 @@ use lib.ListN.{length}
 use Rattle.base_laws.specs.Tests.{choose}
 use Rattle.loss_session.specs.declared.Readings.{Readings}
 use Rattle.loss_session.specs.declared.LossSession.{LossSession}
-use Rattle.loss_session.specs.Session.{near, far, readings}
+use Rattle.loss_session.specs.Session.{near, far, readings, mostIntervals}
 use Rattle.loss_session.specs.Session as session
 use Rattle.loss_reading.specs.Reading.{lossOn}
 use Rattle.state_view.specs.State.{State}
@@ -42,7 +42,7 @@ lossNumbers s r =
     choose (
     (not (session.wellFormed s), refused 2)
     ∷ (eqb (s .kept) 0, plain 4)
-    ∷ (eqb (s .intervals) 1000000000, refused 5)
+    ∷ (eqb (s .intervals) mostIntervals, refused 5)
     ∷ [])
     (numbers 0 0 5 0 (lossOn near (s .last) r) (lossOn far (s .last) r) absent absent absent)
 

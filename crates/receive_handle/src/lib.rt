@@ -5,10 +5,10 @@ ghost use Prim.Native.Nat.{_+_, _≤_};
 ghost use lib.ListN.{length};
 ghost use Rattle.receive_delay.specs.Delays.{delaysOf};
 ghost use Rattle.frame_measures.specs.Measures.{stamp};
-ghost use Rattle.state_settings.specs.Settings.{settingsOf};
+ghost use Rattle.state_settings.specs.Settings.{lentSettings};
 ghost use Rattle.receive_handle.specs.Handle.{roomFor, readingIn, handleOf, handledOf};
 use base_bits::period_code_of;
-use base_octets::numbers::read_big;
+use base_numbers::read_big;
 use base_stamp::Stamp;
 use frame_opcodes::Handler;
 use receive_answer::Drop;
@@ -18,7 +18,9 @@ use receive_delay::measure_delay;
 use receive_peer::ccm_signal;
 use receive_respond::Request;
 use receive_signals::Signal;
-use state_settings::PEERS;
+use state_settings::Names;
+use state_settings::Set;
+use state_settings::Slots;
 
 // What is done with a frame.
 pub enum Decision {
@@ -72,15 +74,15 @@ fn delays_in(pdu: &[u8], receive: Stamp) -> DelayAnswer
 
 // A message that has the octets which its handler reads.
 fn handle(
-    set: &[u32; 4],
-    names: &[u8; 60],
-    ids: &[u32; PEERS],
+    set: &Set,
+    names: &Names,
+    ids: &Slots,
     pdu: &[u8],
     receive: Stamp,
     handler: Handler,
 ) -> Decision
     requires { ⌜ roomFor handler ≤ length (now pdu) ⌝ }
-    ensures { λ r. ⌜ r ≡ handleOf (settingsOf (now (set .entry)) (now (names .entry)) (now (ids .entry))) (now (pdu .entry)) receive handler ⌝ }
+    ensures { λ r. ⌜ r ≡ handleOf (lentSettings set names ids) (now (pdu .entry)) receive handler ⌝ }
 {
     match handler {
         Handler::Nobody => Decision::Drops(Drop::Opcode),
@@ -120,14 +122,14 @@ fn room_for(handler: Handler) -> usize
 
 // A message for us, by who handles it. A good one has the octets that its handler reads, so it is never cut off here.
 pub fn handle_message(
-    set: &[u32; 4],
-    names: &[u8; 60],
-    ids: &[u32; PEERS],
+    set: &Set,
+    names: &Names,
+    ids: &Slots,
     pdu: &[u8],
     receive: Stamp,
     handler: Handler,
 ) -> Decision
-    ensures { λ r. ⌜ r ≡ handledOf (settingsOf (now (set .entry)) (now (names .entry)) (now (ids .entry))) (now (pdu .entry)) receive handler ⌝ }
+    ensures { λ r. ⌜ r ≡ handledOf (lentSettings set names ids) (now (pdu .entry)) receive handler ⌝ }
 {
     if pdu.len() < room_for(handler) {
         return Decision::Drops(Drop::CutOff);

@@ -7,7 +7,7 @@ use lib.ListN.{length, take, drop}
 use borrow.Author.Tests.{le-leb, lt-leb, eq-eqb, ne-eqb}
 use Rattle.base_laws.specs.Tests.{choose}
 use Rattle.base_laws.specs.Lists.{part, same, placeOf}
-use Rattle.base_octets.specs.Numbers.{number, bigEndian}
+use Rattle.base_numbers.specs.Numbers.{number, bigEndian}
 use Rattle.base_bits.specs.Fields.{mepId}
 use Rattle.state_settings.specs.Settings.{Settings}
 use Rattle.frame_ccm.specs.Ccm.{ccmIn}

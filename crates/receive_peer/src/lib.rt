@@ -2,18 +2,22 @@
 // It looks at the settings and the PDU, and at no state.
 ghost use mathlib.Core.Path.{_≡_};
 ghost use lib.ListN.{take};
-ghost use Rattle.state_settings.specs.Settings.{settingsOf};
+ghost use Rattle.state_settings.specs.Settings.{lentSettings};
 ghost use Rattle.receive_peer.specs.Peers.{ccmSignal};
 use base_bits::mep_id_of;
 use base_bits::period_code_of;
 use base_bits::rdi_of;
 use base_compare::same_octets;
-use base_octets::numbers::read_big;
+use base_numbers::read_big;
 use base_words::place_of;
 use receive_signals::Signal;
 use state_settings::COUNT;
-use state_settings::PEERS;
+use state_settings::MEG;
+use state_settings::NAMES;
+use state_settings::Names;
 use state_settings::PERIOD;
+use state_settings::Set;
+use state_settings::Slots;
 
 // The used slots; all where there are fewer.
 fn front(slots: &[u32], count: u32) -> &[u32]
@@ -27,14 +31,14 @@ fn front(slots: &[u32], count: u32) -> &[u32]
 }
 
 // Tells what a CCM's PDU says. One too short for a MEG ID has not ours.
-pub fn ccm_signal(set: &[u32; 4], names: &[u8; 60], ids: &[u32; PEERS], pdu: &[u8]) -> Signal
-    ensures { λ r. ⌜ r ≡ ccmSignal (settingsOf (now (set .entry)) (now (names .entry)) (now (ids .entry))) (now (pdu .entry)) ⌝ }
+pub fn ccm_signal(set: &Set, names: &Names, ids: &Slots, pdu: &[u8]) -> Signal
+    ensures { λ r. ⌜ r ≡ ccmSignal (lentSettings set names ids) (now (pdu .entry)) ⌝ }
 {
     let all: &[u8] = names;
     if pdu.len() < 58 {
         return Signal::Mismerge;
     }
-    if !same_octets(&pdu[10..58], &all[12..60]) {
+    if !same_octets(&pdu[10..58], &all[MEG..NAMES]) {
         return Signal::Mismerge;
     }
     let peers = front(ids, set[COUNT]);

@@ -9,7 +9,9 @@ use Rattle.receive_answer.specs.declared.FrameAnswer.{FrameAnswer}
 use Rattle.receive_answer.specs.declared.FrameAnswer.the-variants as answer
 use Rattle.message_reply.specs.declared.Replied.{Replied}
 use Rattle.message_reply.specs.declared.Replied.the-variants.{CutOff, NoRoom, Octets}
-use Rattle.message_reply.specs.Replies.{lbrOctets, lmrOctets, dmrOctets}
+use Rattle.message_lbr.specs.Lbr.{lbrOctets}
+use Rattle.message_lmr.specs.Lmr.{lmrOctets}
+use Rattle.message_dmr.specs.Dmr.{dmrOctets}
 use Rattle.message_reply.specs.Replied.{repliedOf, leftOf}
 use Rattle.receive_respond.specs.declared.Request.{Request}
 use Rattle.receive_respond.specs.declared.Request.the-variants.{Loopback, Loss, Delay}

@@ -1,18 +1,22 @@
 // The answer to a request: the reply written from the request, our address, our counts and the caller's stamps. Rule 6 of the paper.
 ghost use mathlib.Core.Path.{_≡_};
-ghost use Rattle.state_settings.specs.Settings.{addressAt};
+ghost use Rattle.state_settings.specs.Settings.{ownNamed};
 ghost use Rattle.state_view.specs.State.{before};
 ghost use Rattle.receive_respond.specs.Respond.{answerFor, respondedOf, leftAfter};
 use base_stamp::Stamp;
+use message_dmr::write_dmr;
+use message_lbr::write_lbr;
+use message_lmr::write_lmr;
 use message_reply::Replied;
-use message_reply::write_dmr;
-use message_reply::write_lbr;
-use message_reply::write_lmr;
 use receive_answer::Drop;
 use receive_answer::FrameAnswer;
-use state_settings::PEERS;
+use state_settings::Names;
+use state_settings::Set;
+use state_settings::Slots;
 use state_view::RECEIVED;
+use state_view::Run;
 use state_view::SENT;
+use state_view::Totals;
 
 // A message that is answered.
 pub enum Request {
@@ -22,8 +26,8 @@ pub enum Request {
 }
 
 // Our own address.
-fn own_address(names: &[u8; 60]) -> [u8; 6]
-    ensures { λ r. ⌜ r ≡ addressAt 0 (now (names .entry)) ⌝ }
+fn own_address(names: &Names) -> [u8; 6]
+    ensures { λ r. ⌜ r ≡ ownNamed (now (names .entry)) ⌝ }
 {
     // a view of the array tells its length, and costs nothing
     let _all: &[u8] = names;
@@ -43,20 +47,21 @@ fn answer_for(replied: Replied) -> FrameAnswer
 
 // Answers a request.
 pub fn respond(
-    set: &[u32; 4],
-    names: &[u8; 60],
-    ids: &[u32; PEERS],
-    timers: &[u32; PEERS],
-    rdi: &[u32; PEERS],
-    run: &[u32; 15],
-    totals: &[i64; 2],
+    set: &Set,
+    names: &Names,
+    ids: &Slots,
+    timers: &Slots,
+    rdi: &Slots,
+    run: &Run,
+    totals: &Totals,
     frame: &[u8],
     receive: Stamp,
     transmit: Stamp,
     request: Request,
     out: &mut [u8],
 ) -> FrameAnswer
-    ensures { λ r. ⌜ r ≡ respondedOf (before set names ids timers rdi run totals) (now (frame .entry)) receive transmit (now (out .entry)) request ⌝ }
+    ensures { λ r. ⌜ r ≡
+        respondedOf (before set names ids timers rdi run totals) (now (frame .entry)) receive transmit (now (out .entry)) request ⌝ }
     ensures { λ _. ⌜ now (out .exit) ≡
         leftAfter (before set names ids timers rdi run totals) (now (frame .entry)) receive transmit (now (out .entry)) request ⌝ }
 {

@@ -5,11 +5,15 @@ ghost use Rattle.state_view.specs.State.{before, afterSignal};
 ghost use Rattle.state_places.specs.Stored.{Whole};
 ghost use Rattle.receive_signals.specs.Signals.{signalled};
 use base_period::hold_of;
-use state_settings::PEERS;
+use state_settings::Names;
 use state_settings::PERIOD;
+use state_settings::Set;
+use state_settings::Slots;
 use state_view::AIS;
 use state_view::LCK;
 use state_view::MISMERGE;
+use state_view::Run;
+use state_view::Totals;
 use state_view::UNEXPECTED_MEP;
 use state_view::UNEXPECTED_PERIOD;
 
@@ -40,13 +44,13 @@ fn put_slot(slots: &mut [u32], slot: usize, word: u32)
 
 // Sets what a message tells: every timer to our own hold time, but those of AIS and LCK to that of the period in the frame.
 pub fn set_timers(
-    set: &[u32; 4],
-    names: &[u8; 60],
-    ids: &[u32; PEERS],
-    timers: &mut [u32; PEERS],
-    rdi: &mut [u32; PEERS],
-    run: &mut [u32; 15],
-    totals: &[i64; 2],
+    set: &Set,
+    names: &Names,
+    ids: &Slots,
+    timers: &mut Slots,
+    rdi: &mut Slots,
+    run: &mut Run,
+    totals: &Totals,
     signal: Signal,
 )
     ensures { λ _. ⌜ afterSignal set names ids timers rdi run totals ≡ signalled (before set names ids timers rdi run totals) signal ⌝ }

@@ -1,15 +1,15 @@
 // Works a month again: raw loss replies on standard input, a stored loss line after each on standard output.
 // A reply is four little-endian counts of 32 bits (TxFCf, RxFCf, TxFCb, our own received count); `sheet` prints the lines. A reply that the
 // input cuts short, or that the session has no interval left for, ends it and is told on standard error; the lines before it stand. What is
-// written for a chunk of replies is proved in `stored_recount`.
+// written for a chunk of replies is proved in `stored_replies`.
 use libc::STDERR_FILENO;
 use libc::STDIN_FILENO;
 use libc::STDOUT_FILENO;
 use loss_session::LossSession;
 use loss_session::cleared;
 use stored_line::LINE;
-use stored_recount::REPLY;
-use stored_recount::recount;
+use stored_replies::REPLY;
+use stored_replies::recount;
 
 // The octets read at a time: whole replies, so that none lies across two chunks.
 const CHUNK: usize = 16384;

@@ -1,7 +1,7 @@
 // The parts of a call's body. A call stands at the front of its array, number first, so that a part at a fixed place is always there; what a call's
 // length must be, the room `replay_good_calls` has tested.
-use base_octets::numbers::read_little;
-use base_octets::parts::copy_octets;
+use base_numbers::read_little;
+use base_octets::copy_octets;
 use base_stamp::Stamp;
 use replay_calls::MOST;
 use stored_settings_body::BODY;

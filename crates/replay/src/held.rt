@@ -1,8 +1,12 @@
 // What is held from call to call.
 use loss_session::LossSession;
 use loss_session::cleared;
+use state_settings::NAMES;
 use state_settings::PEERS;
+use state_settings::SET;
+use state_view::RUN;
 use state_view::StateArrays;
+use state_view::TOTALS;
 
 // The state and the lent session.
 pub(crate) struct Held {
@@ -19,13 +23,13 @@ pub(crate) struct Ran {
 // A state of zeros.
 fn zeros() -> StateArrays {
     StateArrays {
-        set: [0; 4],
-        names: [0; 60],
+        set: [0; SET],
+        names: [0; NAMES],
         ids: [0; PEERS],
         timers: [0; PEERS],
         rdi: [0; PEERS],
-        run: [0; 15],
-        totals: [0; 2],
+        run: [0; RUN],
+        totals: [0; TOTALS],
     }
 }
 

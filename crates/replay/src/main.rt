@@ -32,7 +32,7 @@ use crate::steps::run_clear;
 use crate::steps::run_frame;
 use crate::steps::run_setting;
 use crate::steps::run_tick;
-use base_octets::numbers::read_little;
+use base_numbers::read_little;
 use base_text::write_word;
 use libc::STDIN_FILENO;
 use libc::STDOUT_FILENO;

@@ -5,14 +5,14 @@ use crate::held::measured;
 use crate::line::octets;
 use crate::line::refused;
 use crate::steps::losses;
-use base_octets::numbers::read_little;
-use base_octets::parts::copy_octets;
+use base_numbers::read_little;
+use base_octets::copy_octets;
 use base_text::write_word;
 use loss_lent::answer;
 use replay_calls::MOST;
 use replay_session::SESSION;
-use replay_session_read::session_in;
-use replay_session_write::session_octets;
+use replay_session::session_in;
+use replay_session::session_octets;
 
 // 266: the session is put as it stands.
 pub(crate) fn put_session(held: Held, call: &[u8; MOST], line: &mut [u8]) -> Ran {

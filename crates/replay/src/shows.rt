@@ -15,6 +15,7 @@ use replay_calls::MOST;
 use replay_state_write::state_octets;
 use state_settings::COUNT;
 use state_settings::PEERS;
+use state_settings::Slots;
 use state_view::StateArrays;
 
 // 261: an LMM.
@@ -100,14 +101,7 @@ fn slot(line: &mut [u8], at: usize, used: bool, id: u32, lost: u32, rdi: u32) ->
 }
 
 // Each used peer.
-fn peers(
-    line: &mut [u8],
-    at: usize,
-    count: u32,
-    ids: &[u32; PEERS],
-    lost: &[u32; PEERS],
-    rdi: &[u32; PEERS],
-) -> usize {
+fn peers(line: &mut [u8], at: usize, count: u32, ids: &Slots, lost: &Slots, rdi: &Slots) -> usize {
     let used = count as usize;
     let mut behind = at;
     let mut i: usize = 0;

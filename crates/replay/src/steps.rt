@@ -11,7 +11,7 @@ use crate::line::number;
 use crate::line::reason;
 use crate::line::said;
 use crate::line::sent;
-use base_octets::parts::copy_octets;
+use base_octets::copy_octets;
 use base_text::write_word;
 use call_clear::clear;
 use call_setting::new_setting;
@@ -40,7 +40,7 @@ pub(crate) fn run_setting(held: Held, call: &[u8; MOST], line: &mut [u8]) -> Ran
     let started = new_setting(&set, &names, &ids);
     let answer = started.answer;
     let state = started.state;
-    let told = call_setting_answer::tell(answer);
+    let told = call_setting::tell(answer);
     stepped(held, state, done(line, told.refusal, b"set"))
 }
 

@@ -10,7 +10,7 @@ use borrow.Author.Tests.{lt-ltb, le-ltb, le-leb, lt-leb, eq-eqb, ne-eqb, ltb-tru
 use Rattle.base_laws.specs.Tests.{choose}
 use Rattle.base_laws.specs.Lists.{part}
 use Rattle.base_laws.proofs.Tests.{known}
-use Rattle.base_octets.specs.Numbers.{littleEndian, number}
+use Rattle.base_numbers.specs.Numbers.{littleEndian, number}
 use Rattle.replay_calls.specs.Calls.{places, rowOf, placeOf, frontNumber, callLength, roomAt, roomOf}
 
 -- ── the rows ──

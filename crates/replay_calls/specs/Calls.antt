@@ -10,7 +10,7 @@ use lib.Dec.{eqb, ltb, leb}
 use lib.ListN.{length, getD}
 use Rattle.base_laws.specs.Tests.{choose}
 use Rattle.base_laws.specs.Lists.{part}
-use Rattle.base_octets.specs.Numbers.{littleEndian, number}
+use Rattle.base_numbers.specs.Numbers.{littleEndian, number}
 
 -- ── the table of calls, from number 257 on: new setting, frame, tick, clear, send LMM, send DMM, put and show a state, ask a TLV, put and measure on
 -- the lent session, read and write a settings record, read and write a loss line, conditions ──

@@ -2,7 +2,7 @@
 // A call is a two-octet length of all that follows it, a two-octet number, a body.
 ghost use mathlib.Core.Path.{_≡_};
 ghost use Rattle.replay_calls.specs.Calls.{rowOf, callLength, handsOver, roomOf};
-use base_octets::numbers::read_little;
+use base_numbers::read_little;
 
 // The longest call, without its length.
 pub const MOST: usize = 2000;

@@ -1,7 +1,7 @@
 // Which octets are a call: a number that is known, a body of its length, a good side, a good buffer.
 ghost use mathlib.Core.Path.{_≡_};
 ghost use Rattle.replay_good_calls.specs.GoodCalls.{sideGood, isCall};
-use base_octets::numbers::read_little;
+use base_numbers::read_little;
 use replay_calls::ROOM;
 use replay_calls::room_of;
 use replay_calls::row_of;

@@ -11,8 +11,10 @@ use Rattle.base_laws.specs.Lists.{part, laid}
 use Rattle.base_laws.proofs.Lists.{part-append, part-all, part-here}
 use Rattle.base_laws.proofs.Apart.{laid-whole}
 use Rattle.base_laws.proofs.Pieces.{first, more}
-use Rattle.base_octets.specs.Numbers.{littleEndian, number, inOctets, Octets}
-use Rattle.base_octets.proofs.Laws.{length-octets, number-here, read-again, signed-octets, signed-again}
+use Rattle.base_octets.specs.Octets.{Octets}
+use Rattle.base_numbers.specs.Numbers.{littleEndian, number, inOctets}
+use Rattle.base_numbers.proofs.Laws.{length-octets, number-here, read-again}
+use Rattle.base_signed.proofs.Laws.{signed-octets, signed-again}
 use Rattle.loss_session.specs.declared.LossSession.{LossSession}
 use Rattle.loss_session.specs.Session.{readings}
 use Rattle.replay_session.specs.Session.{field, fieldAt, signed, signedAt, sessionOctets, sessionAt, FieldsHold, SessionsInOctets}

@@ -8,7 +8,8 @@ use lib.ListN.{length}
 use mir.Syntax.{w64}
 use mir.Val.{SFits, toZ, ofZ}
 use Rattle.base_laws.specs.Lists.{part}
-use Rattle.base_octets.specs.Numbers.{littleEndian, number, inOctets, Octets}
+use Rattle.base_octets.specs.Octets.{Octets}
+use Rattle.base_numbers.specs.Numbers.{littleEndian, number, inOctets}
 use Rattle.loss_session.specs.declared.LossSession.{LossSession}
 use Rattle.loss_session.specs.Session.{readings}
 

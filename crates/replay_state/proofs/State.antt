@@ -10,8 +10,10 @@ use Rattle.base_laws.specs.Lists.{part, laid}
 use Rattle.base_laws.proofs.Lists.{part-append, part-all, part-drop, length-part}
 use Rattle.base_laws.proofs.Apart.{laid-whole}
 use Rattle.base_laws.proofs.Pieces.{first, more}
-use Rattle.base_octets.specs.Numbers.{littleEndian, Octets}
-use Rattle.base_octets.proofs.Laws.{part-octets, read-again}
+use Rattle.base_octets.specs.Octets.{Octets}
+use Rattle.base_numbers.specs.Numbers.{littleEndian}
+use Rattle.base_octets.proofs.Octets.{part-octets}
+use Rattle.base_numbers.proofs.Laws.{read-again}
 use Rattle.state_settings.specs.Settings.{slots, Shaped}
 use Rattle.state_view.specs.State.{State, shown}
 use Rattle.stored_settings_body.specs.Body.{settingsBody, settingsIn}

@@ -6,10 +6,11 @@ use mathlib.Core.Path.{_≡_}
 use mathlib.Core.List.{List, [], _∷_, _++_}
 use lib.ListN.{length, drop}
 use Rattle.base_laws.specs.Lists.{part}
-use Rattle.base_octets.specs.Numbers.{Octets}
+use Rattle.base_octets.specs.Octets.{Octets}
 use Rattle.loss_session.specs.declared.LossSession.{LossSession}
 use Rattle.state_settings.specs.Settings.{slots, Shaped}
-use Rattle.state_view.specs.State.{State, shown}
+use Rattle.state_view.specs.State.{State, runOf, totalsOf, shown}
+use Rattle.state_view.specs.Changed.{withSession}
 use Rattle.state_view.specs.declared.StateArrays.{StateArrays}
 use Rattle.stored_settings_body.specs.Body.{settingsBody, settingsIn}
 use Rattle.stored_settings_body.specs.Lying.{setOf, namesOf}
@@ -48,45 +49,9 @@ stateAt octets = record {
 
 -- ── how it lies in memory ──
 
--- the running words of a state
-abbrev pub runOf : State → List ℕ
-runOf s =
-    s .mismerge
-    ∷ s .unexpected-level
-    ∷ s .unexpected-mep
-    ∷ s .unexpected-period
-    ∷ s .ais
-    ∷ s .lck
-    ∷ s .next
-    ∷ s .sent
-    ∷ s .received
-    ∷ s .session .kept
-    ∷ s .session .last .txf
-    ∷ s .session .last .rxf
-    ∷ s .session .last .txb
-    ∷ s .session .last .ours
-    ∷ s .session .intervals
-    ∷ []
-
--- those of the state in octets, with this session
+-- the running words of the state in octets, with this session
 abbrev pub runAt : List ℕ → LossSession → List ℕ
-runAt octets session =
-    fieldAt 129 4 octets
-    ∷ fieldAt 141 4 octets
-    ∷ fieldAt 133 4 octets
-    ∷ fieldAt 137 4 octets
-    ∷ fieldAt 145 4 octets
-    ∷ fieldAt 149 4 octets
-    ∷ fieldAt 153 4 octets
-    ∷ fieldAt 81 4 octets
-    ∷ fieldAt 85 4 octets
-    ∷ session .kept
-    ∷ session .last .txf
-    ∷ session .last .rxf
-    ∷ session .last .txb
-    ∷ session .last .ours
-    ∷ session .intervals
-    ∷ []
+runAt octets session = runOf (withSession session (stateAt octets))
 
 -- all seven arrays
 abbrev pub arraysOf : State → StateArrays
@@ -97,7 +62,7 @@ arraysOf s = record {
   timers = s .timers;
   rdi = s .rdi;
   run = runOf s;
-  totals = s .session .near ∷ s .session .far ∷ [];
+  totals = totalsOf s;
 }
 
 -- what is said of every state in octets, well formed or not

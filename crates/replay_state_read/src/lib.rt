@@ -5,19 +5,21 @@ ghost use lib.ListN.{length, drop};
 ghost use Rattle.state_settings.specs.Settings.{slots};
 ghost use Rattle.replay_state.specs.Words.{wordsIn};
 ghost use Rattle.replay_state.specs.State.{stateAt, runAt, arraysOf};
-use base_octets::numbers::read_little;
-use base_octets::parts::copy_octets;
+use base_numbers::read_little;
+use base_octets::copy_octets;
 use loss_session::LossSession;
 use replay_session::SESSION;
-use replay_session_read::session_in;
+use replay_session::session_in;
 use replay_state::STATE;
 use state_settings::PEERS;
+use state_settings::Slots;
+use state_view::Run;
 use state_view::StateArrays;
 use stored_settings_body::BODY;
 use stored_settings_body::settings_of;
 
 // The words of the slots from a place on, n octets each.
-fn words_in(from: &[u8], at: usize, n: usize) -> [u32; PEERS]
+fn words_in(from: &[u8], at: usize, n: usize) -> Slots
     requires { ⌜ (n ≤ 4) × (at + n * slots ≤ length (now from)) ⌝ }
     ensures { λ r. ⌜ r ≡ wordsIn n slots (drop at (now (from .entry))) ⌝ }
 {
@@ -33,7 +35,7 @@ fn words_in(from: &[u8], at: usize, n: usize) -> [u32; PEERS]
 }
 
 // The running words of a state in these octets whose session is known.
-fn run_in(from: &[u8], s: LossSession) -> [u32; 15]
+fn run_in(from: &[u8], s: LossSession) -> Run
     requires { ⌜ 157 ≤ length (now from) ⌝ }
     ensures { λ r. ⌜ r ≡ runAt (now (from .entry)) s ⌝ }
 {

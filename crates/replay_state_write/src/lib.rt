@@ -8,17 +8,21 @@ ghost use Rattle.state_settings.specs.Settings.{slots};
 ghost use Rattle.state_view.specs.State.{before};
 ghost use Rattle.replay_state.specs.Words.{wordsOctets};
 ghost use Rattle.replay_state.specs.State.{stateOctets, runningOctets};
-use base_octets::numbers::write_little;
-use base_octets::parts::copy_octets;
-use replay_session_write::session_octets;
+use base_numbers::write_little;
+use base_octets::copy_octets;
+use replay_session::session_octets;
 use replay_state::STATE;
-use state_settings::PEERS;
+use state_settings::Names;
+use state_settings::Set;
+use state_settings::Slots;
 use state_view::AIS;
 use state_view::LCK;
 use state_view::MISMERGE;
 use state_view::NEXT;
 use state_view::RECEIVED;
+use state_view::Run;
 use state_view::SENT;
+use state_view::Totals;
 use state_view::UNEXPECTED_LEVEL;
 use state_view::UNEXPECTED_MEP;
 use state_view::UNEXPECTED_PERIOD;
@@ -40,9 +44,10 @@ fn write_words(into: &mut [u8], at: usize, n: usize, words: &[u32])
 }
 
 // Writes what stands between the settings and the session: the counts, the words of the slots, the timers of the conditions.
-fn write_running(into: &mut [u8], timers: &[u32], rdi: &[u32], run: &[u32; 15])
+fn write_running(into: &mut [u8], timers: &[u32], rdi: &[u32], run: &Run)
     requires { ⌜ (157 ≤ length (now into)) × (length (now timers) ≡ slots) × (length (now rdi) ≡ slots) ⌝ }
-    ensures { λ _. ⌜ now (into .exit) ≡ laid 81 (runningOctets (getD (now (run .entry)) 7 0 ∷ getD (now (run .entry)) 8 0 ∷ []) (now (timers .entry)) (now (rdi .entry)) (getD (now (run .entry)) 0 0 ∷ getD (now (run .entry)) 2 0 ∷ getD (now (run .entry)) 3 0 ∷ getD (now (run .entry)) 1 0 ∷ getD (now (run .entry)) 4 0 ∷ getD (now (run .entry)) 5 0 ∷ getD (now (run .entry)) 6 0 ∷ [])) (now (into .entry)) ⌝ }
+    ensures { λ _. ⌜ now (into .exit) ≡
+        laid 81 (runningOctets (getD (now (run .entry)) 7 0 ∷ getD (now (run .entry)) 8 0 ∷ []) (now (timers .entry)) (now (rdi .entry)) (getD (now (run .entry)) 0 0 ∷ getD (now (run .entry)) 2 0 ∷ getD (now (run .entry)) 3 0 ∷ getD (now (run .entry)) 1 0 ∷ getD (now (run .entry)) 4 0 ∷ getD (now (run .entry)) 5 0 ∷ getD (now (run .entry)) 6 0 ∷ [])) (now (into .entry)) ⌝ }
 {
     let counts = [run[SENT], run[RECEIVED]];
     let others = [
@@ -62,13 +67,13 @@ fn write_running(into: &mut [u8], timers: &[u32], rdi: &[u32], run: &[u32; 15])
 
 // The octets of a state: nothing is tested, and what does not fit in a field's octets is left out.
 pub fn state_octets(
-    set: &[u32; 4],
-    names: &[u8; 60],
-    ids: &[u32; PEERS],
-    timers: &[u32; PEERS],
-    rdi: &[u32; PEERS],
-    run: &[u32; 15],
-    totals: &[i64; 2],
+    set: &Set,
+    names: &Names,
+    ids: &Slots,
+    timers: &Slots,
+    rdi: &Slots,
+    run: &Run,
+    totals: &Totals,
 ) -> [u8; STATE]
     ensures { λ r. ⌜ r ≡ stateOctets (before set names ids timers rdi run totals) ⌝ }
 {

@@ -5,6 +5,7 @@ use libc::STDERR_FILENO;
 use libc::STDIN_FILENO;
 use libc::STDOUT_FILENO;
 use stored_sheet::header;
+use stored_sheet_lines::LONGEST;
 use stored_sheet_lines::Lines;
 use stored_sheet_lines::write_lines;
 
@@ -12,7 +13,7 @@ use stored_sheet_lines::write_lines;
 const CHUNK: usize = 24576;
 
 // Room for their text, as much as `write_lines` asks for: three octets for each and one line more.
-const ROOM: usize = 3 * CHUNK + 63;
+const ROOM: usize = 3 * CHUNK + LONGEST;
 
 // Prints the first n octets of the text; tells whether all were written.
 fn print(text: &[u8; ROOM], n: usize) -> bool {

@@ -1,86 +1,76 @@
--- The laws of stored words: a list of fifteen is taken apart once, and each law then holds by computing.
+-- The laws of stored words: running words and totals are spelled, as many as there are, and each law then holds by computing.
 use Prim.Native.Nat.{ℕ, _-_}
 use mathlib.Core.Path.{_≡_, refl, ap, sym, _∙_}
-use mathlib.Core.List.{List, [], _∷_, map}
-use native.Mathlib.Omega.{arith}
-use lib.IntN.{ℤ}
+use mathlib.Core.List.{List, map}
+use lib.IntN.{ℤ, pos}
 use lib.ListN.{length, set}
 use Rattle.base_laws.specs.Lists.{onFirst}
+use Rattle.base_laws.proofs.Spelled.{spelled, by-elements}
 use Rattle.loss_session.specs.declared.LossSession.{LossSession}
-use Rattle.state_view.specs.State.{State, viewOf}
+use Rattle.state_view.specs.State.{runWords, lossTotals, State, viewOf, runOf, totalsOf}
 use Rattle.state_view.specs.Changed.{Word, mismerge, unexpected-level, unexpected-mep, unexpected-period, ais, lck, next, sent, received, placeOf, put, withSession, lowered}
 use Rattle.state_places.specs.Stored.{Stores}
 
--- what holds of every list written out holds of every list that is so long
-fifteen : (P : List ℕ → Type 0) → ((x0 x1 x2 x3 x4 x5 x6 x7 x8 x9 x10 x11 x12 x13 x14 : ℕ) → P (x0 ∷ x1 ∷ x2 ∷ x3 ∷ x4 ∷ x5 ∷ x6 ∷ x7 ∷ x8 ∷ x9 ∷ x10 ∷ x11 ∷ x12 ∷ x13 ∷ x14 ∷ [])) → (l : List ℕ) → length l ≡ 15 → P l
-fifteen P p [] h = absurd (omega arith)
-fifteen P p (x0 ∷ []) h = absurd (omega arith)
-fifteen P p (x0 ∷ x1 ∷ []) h = absurd (omega arith)
-fifteen P p (x0 ∷ x1 ∷ x2 ∷ []) h = absurd (omega arith)
-fifteen P p (x0 ∷ x1 ∷ x2 ∷ x3 ∷ []) h = absurd (omega arith)
-fifteen P p (x0 ∷ x1 ∷ x2 ∷ x3 ∷ x4 ∷ []) h = absurd (omega arith)
-fifteen P p (x0 ∷ x1 ∷ x2 ∷ x3 ∷ x4 ∷ x5 ∷ []) h = absurd (omega arith)
-fifteen P p (x0 ∷ x1 ∷ x2 ∷ x3 ∷ x4 ∷ x5 ∷ x6 ∷ []) h = absurd (omega arith)
-fifteen P p (x0 ∷ x1 ∷ x2 ∷ x3 ∷ x4 ∷ x5 ∷ x6 ∷ x7 ∷ []) h = absurd (omega arith)
-fifteen P p (x0 ∷ x1 ∷ x2 ∷ x3 ∷ x4 ∷ x5 ∷ x6 ∷ x7 ∷ x8 ∷ []) h = absurd (omega arith)
-fifteen P p (x0 ∷ x1 ∷ x2 ∷ x3 ∷ x4 ∷ x5 ∷ x6 ∷ x7 ∷ x8 ∷ x9 ∷ []) h = absurd (omega arith)
-fifteen P p (x0 ∷ x1 ∷ x2 ∷ x3 ∷ x4 ∷ x5 ∷ x6 ∷ x7 ∷ x8 ∷ x9 ∷ x10 ∷ []) h = absurd (omega arith)
-fifteen P p (x0 ∷ x1 ∷ x2 ∷ x3 ∷ x4 ∷ x5 ∷ x6 ∷ x7 ∷ x8 ∷ x9 ∷ x10 ∷ x11 ∷ []) h = absurd (omega arith)
-fifteen P p (x0 ∷ x1 ∷ x2 ∷ x3 ∷ x4 ∷ x5 ∷ x6 ∷ x7 ∷ x8 ∷ x9 ∷ x10 ∷ x11 ∷ x12 ∷ []) h = absurd (omega arith)
-fifteen P p (x0 ∷ x1 ∷ x2 ∷ x3 ∷ x4 ∷ x5 ∷ x6 ∷ x7 ∷ x8 ∷ x9 ∷ x10 ∷ x11 ∷ x12 ∷ x13 ∷ []) h = absurd (omega arith)
-fifteen P p (x0 ∷ x1 ∷ x2 ∷ x3 ∷ x4 ∷ x5 ∷ x6 ∷ x7 ∷ x8 ∷ x9 ∷ x10 ∷ x11 ∷ x12 ∷ x13 ∷ x14 ∷ []) h = p x0 x1 x2 x3 x4 x5 x6 x7 x8 x9 x10 x11 x12 x13 x14
-fifteen P p (x0 ∷ x1 ∷ x2 ∷ x3 ∷ x4 ∷ x5 ∷ x6 ∷ x7 ∷ x8 ∷ x9 ∷ x10 ∷ x11 ∷ x12 ∷ x13 ∷ x14 ∷ y ∷ l) h = absurd (omega arith)
+-- what holds of running words that are spelled holds of any, and so of totals
+by-words : (P : List ℕ → Type 0) (run : List ℕ) → length run ≡ runWords → P (spelled 0 runWords run) → P run
+by-words = by-elements 0 runWords
 
-two : (P : List ℤ → Type 0) → ((n f : ℤ) → P (n ∷ f ∷ [])) → (l : List ℤ) → length l ≡ 2 → P l
-two P p [] h = absurd (omega arith)
-two P p (n ∷ []) h = absurd (omega arith)
-two P p (n ∷ f ∷ []) h = p n f
-two P p (n ∷ f ∷ y ∷ l) h = absurd (omega arith)
+by-totals : (P : List ℤ → Type 0) (totals : List ℤ) → length totals ≡ lossTotals
+    → P (spelled (pos 0) lossTotals totals) → P totals
+by-totals = by-elements (pos 0) lossTotals
 
--- the fifteen words and the two totals that a state shows
-abbrev wordsOf : State → List ℕ
-wordsOf s = s .mismerge ∷ s .unexpected-level ∷ s .unexpected-mep ∷ s .unexpected-period ∷ s .ais ∷ s .lck ∷ s .next ∷ s .sent ∷ s .received ∷ s .session .kept ∷ s .session .last .txf ∷ s .session .last .rxf ∷ s .session .last .txb ∷ s .session .last .ours ∷ s .session .intervals ∷ []
+module _ (st names ids timers rdi : List ℕ) where
+  module _ (totals : List ℤ) where
+    module _ (v : ℕ) where
+      abbrev Put : Word → List ℕ → Type 0
+      Put w run = viewOf st names ids timers rdi (set run (placeOf w) v) totals ≡ put w v (viewOf st names ids timers rdi run totals)
 
-abbrev totalsOf : State → List ℤ
-totalsOf s = s .session .near ∷ s .session .far ∷ []
+      put-in : (w : Word) (run : List ℕ) → Put w (spelled 0 runWords run)
+      put-in mismerge run = refl
+      put-in unexpected-level run = refl
+      put-in unexpected-mep run = refl
+      put-in unexpected-period run = refl
+      put-in ais run = refl
+      put-in lck run = refl
+      put-in next run = refl
+      put-in sent run = refl
+      put-in received run = refl
 
-module _ (st names ids timers rdi : List ℕ) (totals : List ℤ) where
-  module _ (v : ℕ) where
-    abbrev Put : Word → List ℕ → Type 0
-    Put w run = viewOf st names ids timers rdi (set run (placeOf w) v) totals ≡ put w v (viewOf st names ids timers rdi run totals)
+      pub word : (w : Word) (run : List ℕ) → length run ≡ runWords → Put w run
+      word w run h = by-words (Put w) run h (put-in w run)
 
-    put-in : (w : Word) (x0 x1 x2 x3 x4 x5 x6 x7 x8 x9 x10 x11 x12 x13 x14 : ℕ) → Put w (x0 ∷ x1 ∷ x2 ∷ x3 ∷ x4 ∷ x5 ∷ x6 ∷ x7 ∷ x8 ∷ x9 ∷ x10 ∷ x11 ∷ x12 ∷ x13 ∷ x14 ∷ [])
-    put-in mismerge x0 x1 x2 x3 x4 x5 x6 x7 x8 x9 x10 x11 x12 x13 x14 = refl
-    put-in unexpected-level x0 x1 x2 x3 x4 x5 x6 x7 x8 x9 x10 x11 x12 x13 x14 = refl
-    put-in unexpected-mep x0 x1 x2 x3 x4 x5 x6 x7 x8 x9 x10 x11 x12 x13 x14 = refl
-    put-in unexpected-period x0 x1 x2 x3 x4 x5 x6 x7 x8 x9 x10 x11 x12 x13 x14 = refl
-    put-in ais x0 x1 x2 x3 x4 x5 x6 x7 x8 x9 x10 x11 x12 x13 x14 = refl
-    put-in lck x0 x1 x2 x3 x4 x5 x6 x7 x8 x9 x10 x11 x12 x13 x14 = refl
-    put-in next x0 x1 x2 x3 x4 x5 x6 x7 x8 x9 x10 x11 x12 x13 x14 = refl
-    put-in sent x0 x1 x2 x3 x4 x5 x6 x7 x8 x9 x10 x11 x12 x13 x14 = refl
-    put-in received x0 x1 x2 x3 x4 x5 x6 x7 x8 x9 x10 x11 x12 x13 x14 = refl
+    abbrev Lower : List ℕ → Type 0
+    Lower run =
+        viewOf st names ids (map (λ t. t - 1) timers) rdi (onFirst (λ t. t - 1) 6 run) totals
+        ≡ lowered (viewOf st names ids timers rdi run totals)
 
-    pub word : (w : Word) (run : List ℕ) → length run ≡ 15 → Put w run
-    word w run h = fifteen (Put w) (put-in w) run h
+    pub lower : (run : List ℕ) → length run ≡ runWords → Lower run
+    unfolding onFirst
+    lower run h = by-words Lower run h refl
 
-  pub lower : (run : List ℕ) → length run ≡ 15
-      → viewOf st names ids (map (λ t. t - 1) timers) rdi (onFirst (λ t. t - 1) 6 run) totals ≡ lowered (viewOf st names ids timers rdi run totals)
-  unfolding onFirst
-  lower run h = fifteen (λ r. viewOf st names ids (map (λ t. t - 1) timers) rdi (onFirst (λ t. t - 1) 6 r) totals ≡ lowered (viewOf st names ids timers rdi r totals)) (λ x0 x1 x2 x3 x4 x5 x6 x7 x8 x9 x10 x11 x12 x13 x14. refl) run h
+    -- the running words are those that the state shows
+    pub words-back : (run : List ℕ) → length run ≡ runWords → runOf (viewOf st names ids timers rdi run totals) ≡ run
+    words-back run h = by-words (λ r. runOf (viewOf st names ids timers rdi r totals) ≡ r) run h refl
+
+  module _ (run : List ℕ) (totals : List ℤ) where
+    -- and so are the totals
+    pub totals-back : length totals ≡ lossTotals → totalsOf (viewOf st names ids timers rdi run totals) ≡ totals
+    totals-back h = by-totals (λ z. totalsOf (viewOf st names ids timers rdi run z) ≡ z) totals h refl
 
   -- a session's words and totals stored one after another
-  pub session : (x : LossSession) (run : List ℕ) → length run ≡ 15 → length totals ≡ 2
-      → viewOf st names ids timers rdi (set (set (set (set (set (set run 9 (x .kept)) 10 (x .last .txf)) 11 (x .last .rxf)) 12 (x .last .txb)) 13 (x .last .ours)) 14 (x .intervals)) (set (set totals 0 (x .near)) 1 (x .far))
-      ≡ withSession x (viewOf st names ids timers rdi run totals)
-  session x run h k = fifteen (λ r. viewOf st names ids timers rdi (set (set (set (set (set (set r 9 (x .kept)) 10 (x .last .txf)) 11 (x .last .rxf)) 12 (x .last .txb)) 13 (x .last .ours)) 14 (x .intervals)) (set (set totals 0 (x .near)) 1 (x .far)) ≡ withSession x (viewOf st names ids timers rdi r totals))
-      (λ x0 x1 x2 x3 x4 x5 x6 x7 x8 x9 x10 x11 x12 x13 x14. two (λ z. viewOf st names ids timers rdi (set (set (set (set (set (set (x0 ∷ x1 ∷ x2 ∷ x3 ∷ x4 ∷ x5 ∷ x6 ∷ x7 ∷ x8 ∷ x9 ∷ x10 ∷ x11 ∷ x12 ∷ x13 ∷ x14 ∷ []) 9 (x .kept)) 10 (x .last .txf)) 11 (x .last .rxf)) 12 (x .last .txb)) 13 (x .last .ours)) 14 (x .intervals)) (set (set z 0 (x .near)) 1 (x .far)) ≡ withSession x (viewOf st names ids timers rdi (x0 ∷ x1 ∷ x2 ∷ x3 ∷ x4 ∷ x5 ∷ x6 ∷ x7 ∷ x8 ∷ x9 ∷ x10 ∷ x11 ∷ x12 ∷ x13 ∷ x14 ∷ []) z)) (λ n f. refl) totals k) run h
+  module _ (x : LossSession) where
+    abbrev words-in : List ℕ → List ℕ
+    words-in run =
+        set (set (set (set (set (set run 9 (x .kept)) 10 (x .last .txf)) 11 (x .last .rxf)) 12 (x .last .txb)) 13 (x .last .ours)) 14
+        (x .intervals)
 
-  -- the running words and the totals are those that the state shows
-  pub words-back : (run : List ℕ) → length run ≡ 15 → wordsOf (viewOf st names ids timers rdi run totals) ≡ run
-  words-back run h = fifteen (λ r. wordsOf (viewOf st names ids timers rdi r totals) ≡ r) (λ x0 x1 x2 x3 x4 x5 x6 x7 x8 x9 x10 x11 x12 x13 x14. refl) run h
+    abbrev Stored : List ℕ → List ℤ → Type 0
+    Stored run totals =
+        viewOf st names ids timers rdi (words-in run) (set (set totals 0 (x .near)) 1 (x .far))
+        ≡ withSession x (viewOf st names ids timers rdi run totals)
 
-  pub totals-back : (run : List ℕ) → length totals ≡ 2 → totalsOf (viewOf st names ids timers rdi run totals) ≡ totals
-  totals-back run h = two (λ z. totalsOf (viewOf st names ids timers rdi run z) ≡ z) (λ n f. refl) totals h
+    pub session : (run : List ℕ) (totals : List ℤ) → length run ≡ runWords → length totals ≡ lossTotals → Stored run totals
+    session run totals h k = by-words (λ r. Stored r totals) run h (by-totals (Stored (spelled 0 runWords run)) totals k refl)
 
 pub stores : (st names ids : List ℕ) → Stores st names ids
 stores st names ids = record {
@@ -89,7 +79,11 @@ stores st names ids = record {
   one = λ timers rdi run totals timers′ rdi′ run′ totals′ w w′ e. (
     ap (λ (s : State). s .timers) e,
     ap (λ (s : State). s .rdi) e,
-    sym (words-back st names ids timers rdi totals run (w .words)) ∙ ap wordsOf e ∙ words-back st names ids timers′ rdi′ totals′ run′ (w′ .words),
-    sym (totals-back st names ids timers rdi totals run (w .both)) ∙ ap totalsOf e ∙ totals-back st names ids timers′ rdi′ totals′ run′ (w′ .both),
+    sym (words-back st names ids timers rdi totals run (w .words))
+        ∙ ap runOf e
+        ∙ words-back st names ids timers′ rdi′ totals′ run′ (w′ .words),
+    sym (totals-back st names ids timers rdi run totals (w .both))
+        ∙ ap totalsOf e
+        ∙ totals-back st names ids timers′ rdi′ run′ totals′ (w′ .both),
   );
 }

@@ -4,25 +4,29 @@ ghost use Rattle.state_view.specs.State.{before, afterSession};
 ghost use Rattle.state_view.specs.Changed.{withSession};
 ghost use Rattle.state_places.specs.Stored.{Whole};
 use loss_session::LossSession;
-use state_settings::PEERS;
+use state_settings::Names;
+use state_settings::Set;
+use state_settings::Slots;
 use state_view::FAR;
 use state_view::INTERVALS;
 use state_view::KEPT;
 use state_view::NEAR;
 use state_view::OURS;
 use state_view::RXFCF;
+use state_view::Run;
 use state_view::TXFCB;
 use state_view::TXFCF;
+use state_view::Totals;
 
 // Puts a loss session where the state's lies.
 pub fn put_session(
-    set: &[u32; 4],
-    names: &[u8; 60],
-    ids: &[u32; PEERS],
-    timers: &[u32; PEERS],
-    rdi: &[u32; PEERS],
-    run: &mut [u32; 15],
-    totals: &mut [i64; 2],
+    set: &Set,
+    names: &Names,
+    ids: &Slots,
+    timers: &Slots,
+    rdi: &Slots,
+    run: &mut Run,
+    totals: &mut Totals,
     session: LossSession,
 )
     ensures { λ _. ⌜ afterSession set names ids timers rdi run totals ≡ withSession session (before set names ids timers rdi run totals) ⌝ }

@@ -5,19 +5,19 @@ use mathlib.Core.List.{List}
 use native.Mathlib.Omega.{arith}
 use lib.ListN.{length}
 use Rattle.base_laws.proofs.Lists.{length-part}
-use Rattle.state_settings.specs.Settings.{slots, settingsOf, Shaped}
+use Rattle.state_settings.specs.Settings.{slots, settingsOf, Shaped, nameOctets, addressOctets, megOctets, ownFrom, losspeerFrom, megFrom}
 
--- 60 octets of names give addresses and MEG ID their lengths
-pub lying-shaped : (set names ids : List ℕ) → length names ≡ 60 → Shaped (length ids) (settingsOf set names ids)
+-- names of their length give addresses and MEG ID theirs
+pub lying-shaped : (set names ids : List ℕ) → length names ≡ nameOctets → Shaped (length ids) (settingsOf set names ids)
 lying-shaped set names ids h = record {
-  own = length-part 0 6 names (omega arith);
-  losspeer = length-part 6 6 names (omega arith);
-  meg = length-part 12 48 names (omega arith);
+  own = length-part ownFrom addressOctets names (omega arith);
+  losspeer = length-part losspeerFrom addressOctets names (omega arith);
+  meg = length-part megFrom megOctets names (omega arith);
   ids = refl;
 }
 
 -- and as many IDs as there are slots
-pub handed-shaped : (set names ids : List ℕ) → length names ≡ 60 → length ids ≡ slots → Shaped slots (settingsOf set names ids)
+pub handed-shaped : (set names ids : List ℕ) → length names ≡ nameOctets → length ids ≡ slots → Shaped slots (settingsOf set names ids)
 handed-shaped set names ids h k = record {
   own = lying-shaped set names ids h .own;
   losspeer = lying-shaped set names ids h .losspeer;

@@ -1,13 +1,39 @@
 -- What a box is set to, and where it lies. The paper, "Numbers". Definitions only.
-use Prim.Native.Nat.{ℕ}
+use Prim.Native.Nat.{ℕ, _+_}
 use mathlib.Core.Path.{_≡_}
 use mathlib.Core.List.{List}
 use lib.ListN.{length, getD}
+use denote.Ref.{RefT, now}
+use denote.Triple.Both.{Both}
 use Rattle.base_laws.specs.Lists.{part}
 
 -- how many peers a box has room for: as many slots as the array of IDs has
 abbrev pub slots : ℕ
 slots = 8
+
+-- how many words the settings are: level, MEP ID, period code, peer count
+abbrev pub setWords : ℕ
+setWords = 4
+
+-- how many octets an address has, and a MEG ID
+abbrev pub addressOctets : ℕ
+addressOctets = 6
+
+abbrev pub megOctets : ℕ
+megOctets = 48
+
+-- from which octet of the names on each lies: our own address, the loss peer's, the MEG ID; and how many octets they are together
+abbrev pub ownFrom : ℕ
+ownFrom = 0
+
+abbrev pub losspeerFrom : ℕ
+losspeerFrom = ownFrom + addressOctets
+
+abbrev pub megFrom : ℕ
+megFrom = losspeerFrom + addressOctets
+
+abbrev pub nameOctets : ℕ
+nameOctets = megFrom + megOctets
 
 pub record Settings : Type 0 where
   -- 0 to 7
@@ -25,26 +51,44 @@ pub record Settings : Type 0 where
   -- the peers' MEP IDs, a slot for each that there is room for
   pub ids : List ℕ
 
--- an address of six octets among the names
+-- an address among the names
 abbrev pub addressAt : ℕ → List ℕ → List ℕ
-addressAt at names = part at 6 names
+addressAt at names = part at addressOctets names
 
--- level, MEP ID, period code, peer count; then own address 6, loss peer 6, MEG ID 48; then the IDs
+-- what the names hold: our own address, the loss peer's, the MEG ID
+abbrev pub ownNamed : List ℕ → List ℕ
+ownNamed names = addressAt ownFrom names
+
+abbrev pub losspeerNamed : List ℕ → List ℕ
+losspeerNamed names = addressAt losspeerFrom names
+
+abbrev pub megNamed : List ℕ → List ℕ
+megNamed names = part megFrom megOctets names
+
+-- the settings that lie in words, names and IDs
 abbrev pub settingsOf : List ℕ → List ℕ → List ℕ → Settings
 settingsOf set names ids = record {
   level = getD set 0 0;
   mep = getD set 1 0;
   period = getD set 2 0;
   count = getD set 3 0;
-  own = addressAt 0 names;
-  losspeer = addressAt 6 names;
-  meg = part 12 48 names;
+  own = ownNamed names;
+  losspeer = losspeerNamed names;
+  meg = megNamed names;
   ids = ids;
 }
 
--- settings of n slots have the lengths in which they are handed over: two addresses of six octets, a MEG ID of 48, an ID for each slot
+-- an array that is lent to a call, as it is when the call begins and when it ends
+abbrev pub Lent : Type 0
+Lent = Both (RefT (List ℕ)) (RefT (List ℕ))
+
+-- the settings that a call is lent, which no call writes
+abbrev pub lentSettings : Lent → Lent → Lent → Settings
+lentSettings set names ids = settingsOf (now (set .entry)) (now (names .entry)) (now (ids .entry))
+
+-- settings of n slots have the lengths in which they are handed over
 pub record Shaped (n : ℕ) (s : Settings) : Type 0 where
-  pub own : length (s .own) ≡ 6
-  pub losspeer : length (s .losspeer) ≡ 6
-  pub meg : length (s .meg) ≡ 48
+  pub own : length (s .own) ≡ addressOctets
+  pub losspeer : length (s .losspeer) ≡ addressOctets
+  pub meg : length (s .meg) ≡ megOctets
   pub ids : length (s .ids) ≡ n

@@ -7,10 +7,10 @@ ghost use Rattle.base_laws.specs.Lists.{every};
 ghost use Rattle.base_words.specs.Words.{within};
 ghost use Rattle.state_view.specs.WellFormed.{slotsGood};
 use base_words::all_within;
-use state_settings::PEERS;
+use state_settings::Slots;
 
 // Whether the slots' timers and RDIs are within their bounds, and unused slots have neither.
-pub fn slots_good(timers: &[u32; PEERS], rdi: &[u32; PEERS], count: u32, hold: u32) -> bool
+pub fn slots_good(timers: &Slots, rdi: &Slots, count: u32, hold: u32) -> bool
     ensures { λ r. ⌜ r ≡ slotsGood (now (timers .entry)) (now (rdi .entry)) count hold ⌝ }
 {
     let used = count as usize;
@@ -20,7 +20,7 @@ pub fn slots_good(timers: &[u32; PEERS], rdi: &[u32; PEERS], count: u32, hold: u
 
 // Whether every slot behind the used ones is 0. It looks at all slots, and joins words, not tests: a loop of a fixed length over words
 // becomes a few vector instructions.
-fn unused_empty(slots: &[u32; PEERS], used: usize) -> bool
+fn unused_empty(slots: &Slots, used: usize) -> bool
     ensures { λ r. ⌜ r ≡ every (within 0) (drop used (now (slots .entry))) ⌝ }
 {
     let all: &[u32] = slots;

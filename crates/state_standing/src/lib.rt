@@ -7,10 +7,14 @@ ghost use Rattle.state_standing.specs.Standing.{standing};
 ghost use Rattle.state_standing.specs.Flag.{flag};
 use base_distinct::is_absent;
 use state_settings::COUNT;
-use state_settings::PEERS;
+use state_settings::Names;
+use state_settings::Set;
+use state_settings::Slots;
 use state_view::AIS;
 use state_view::LCK;
 use state_view::MISMERGE;
+use state_view::Run;
+use state_view::Totals;
 use state_view::UNEXPECTED_LEVEL;
 use state_view::UNEXPECTED_MEP;
 use state_view::UNEXPECTED_PERIOD;
@@ -28,13 +32,13 @@ fn front(slots: &[u32], count: u32) -> &[u32]
 
 // Tells whether any condition stands.
 pub fn any_stands(
-    set: &[u32; 4],
-    names: &[u8; 60],
-    ids: &[u32; PEERS],
-    timers: &[u32; PEERS],
-    rdi: &[u32; PEERS],
-    run: &[u32; 15],
-    totals: &[i64; 2],
+    set: &Set,
+    names: &Names,
+    ids: &Slots,
+    timers: &Slots,
+    rdi: &Slots,
+    run: &Run,
+    totals: &Totals,
 ) -> bool
     ensures { λ r. ⌜ r ≡ standing (before set names ids timers rdi run totals) ⌝ }
 {

@@ -1,11 +1,15 @@
 // Whether the timers of the conditions, and the ticks to the next CCM, are within their bounds: a part of whether a state is well formed.
 ghost use mathlib.Core.Path.{_≡_};
-ghost use Rattle.state_view.specs.State.{viewOf};
+ghost use Rattle.state_view.specs.State.{before};
 ghost use Rattle.state_view.specs.WellFormed.{timersGood, nextGood};
-use state_settings::PEERS;
+use state_settings::Names;
+use state_settings::Set;
+use state_settings::Slots;
 use state_view::AIS;
 use state_view::LCK;
 use state_view::MISMERGE;
+use state_view::Run;
+use state_view::Totals;
 use state_view::UNEXPECTED_LEVEL;
 use state_view::UNEXPECTED_MEP;
 use state_view::UNEXPECTED_PERIOD;
@@ -15,16 +19,16 @@ const ALARM_MOST: u32 = 126_000;
 
 // Whether no timer of a condition is above its hold time.
 pub fn timers_good(
-    set: &[u32; 4],
-    names: &[u8; 60],
-    ids: &[u32; PEERS],
-    timers: &[u32; PEERS],
-    rdi: &[u32; PEERS],
-    run: &[u32; 15],
-    totals: &[i64; 2],
+    set: &Set,
+    names: &Names,
+    ids: &Slots,
+    timers: &Slots,
+    rdi: &Slots,
+    run: &Run,
+    totals: &Totals,
     hold: u32,
 ) -> bool
-    ensures { λ r. ⌜ r ≡ timersGood (viewOf (now (set .entry)) (now (names .entry)) (now (ids .entry)) (now (timers .entry)) (now (rdi .entry)) (now (run .entry)) (now (totals .entry))) hold ⌝ }
+    ensures { λ r. ⌜ r ≡ timersGood (before set names ids timers rdi run totals) hold ⌝ }
 {
     (run[MISMERGE] <= hold)
         & (run[UNEXPECTED_LEVEL] <= hold)

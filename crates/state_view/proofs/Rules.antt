@@ -16,9 +16,11 @@ use Rattle.base_words.specs.Words.{within}
 use Rattle.base_period.specs.Periods.{ticksOf}
 use Rattle.state_settings.specs.Valid.{valid}
 use Rattle.state_settings.proofs.Rules as Settings
+use Rattle.loss_session.specs.declared.LossSession.{LossSession}
 use Rattle.loss_session.specs.Session as Session
 use Rattle.loss_session.proofs.Laws as Sessions
 use Rattle.state_view.specs.State.{State}
+use Rattle.state_view.specs.Changed.{withSession}
 use Rattle.state_view.specs.WellFormed.{ownMost, alarmMost, WellFormed, timersGood, nextGood, slotsGood, wellFormed, WellFormedIs}
 
 -- ── runs of words ──
@@ -96,6 +98,25 @@ module _ (s : State) where
       (join (timersGood s hold) _ t5
       (join (nextGood (s .next) (ticksOf (s .settings .period))) _ x
       (join (slotsGood (s .timers) (s .rdi) n hold) (Session.wellFormed (s .session)) (join _ _ q r) (Sessions.well (s .session) .1 (w .session)))))
+
+-- a well-formed session put into a well-formed state leaves it so
+pub session-put : (s : State) (x : LossSession) → Session.WellFormed x → WellFormed s → WellFormed (withSession x s)
+session-put s x v w = record {
+  settings = w .settings;
+  timers = w .timers;
+  mismerge = w .mismerge;
+  unexpected-level = w .unexpected-level;
+  unexpected-mep = w .unexpected-mep;
+  unexpected-period = w .unexpected-period;
+  ais = w .ais;
+  lck = w .lck;
+  some-tick = w .some-tick;
+  next = w .next;
+  rdi = w .rdi;
+  no-timer = w .no-timer;
+  no-rdi = w .no-rdi;
+  session = v;
+}
 
 pub well-formed-is : WellFormedIs
 well-formed-is = record { well-formed-is = λ s. (to s, from s) }

@@ -53,12 +53,12 @@ put w v s = record {
   session = s .session;
 }
 
--- the peer in a slot was heard: its timer and its RDI are now these
-abbrev pub heard : ℕ → ℕ → ℕ → State → State
-heard slot timer flag s = record {
+-- the slots' timers and RDI are now these
+abbrev pub withSlots : List ℕ → List ℕ → State → State
+withSlots timers rdi s = record {
   settings = s .settings;
-  timers = set (s .timers) slot timer;
-  rdi = set (s .rdi) slot flag;
+  timers = timers;
+  rdi = rdi;
   mismerge = s .mismerge;
   unexpected-level = s .unexpected-level;
   unexpected-mep = s .unexpected-mep;
@@ -70,6 +70,10 @@ heard slot timer flag s = record {
   received = s .received;
   session = s .session;
 }
+
+-- the peer in a slot was heard: its timer and its RDI are now these
+abbrev pub heard : ℕ → ℕ → ℕ → State → State
+heard slot timer flag s = withSlots (set (s .timers) slot timer) (set (s .rdi) slot flag) s
 
 -- the loss session is now this
 abbrev pub withSession : LossSession → State → State

@@ -1,15 +1,22 @@
 -- What a box knows: its settings, its timers, its counts, its loss session; and where each word of it lies. The paper, "Numbers" and rules 5
 -- and 7. Definitions only.
 use Prim.Native.Nat.{ℕ}
-use mathlib.Core.List.{List}
+use mathlib.Core.List.{List, [], _∷_}
 use lib.IntN.{ℤ, pos}
 use lib.ListN.{getD}
 use denote.Ref.{RefT, now}
 use denote.Triple.Both.{Both}
-use Rattle.state_settings.specs.Settings.{Settings, settingsOf}
+use Rattle.state_settings.specs.Settings.{Settings, settingsOf, Lent}
 use Rattle.loss_session.specs.declared.LossSession.{LossSession}
 use Rattle.loss_session.specs.Session.{readings}
 use Rattle.state_view.specs.declared.StateArrays.{StateArrays}
+
+-- how many running words a box has, and how many totals of loss
+abbrev pub runWords : ℕ
+runWords = 15
+
+abbrev pub lossTotals : ℕ
+lossTotals = 2
 
 pub record State : Type 0 where
   pub settings : Settings
@@ -58,7 +65,30 @@ viewOf set names ids timers rdi run totals = record {
   session = sessionIn run totals;
 }
 
--- the same of arrays held together
+-- and back: the running words of a state, and its totals
+abbrev pub runOf : State → List ℕ
+runOf s =
+    s .mismerge
+    ∷ s .unexpected-level
+    ∷ s .unexpected-mep
+    ∷ s .unexpected-period
+    ∷ s .ais
+    ∷ s .lck
+    ∷ s .next
+    ∷ s .sent
+    ∷ s .received
+    ∷ s .session .kept
+    ∷ s .session .last .txf
+    ∷ s .session .last .rxf
+    ∷ s .session .last .txb
+    ∷ s .session .last .ours
+    ∷ s .session .intervals
+    ∷ []
+
+abbrev pub totalsOf : State → List ℤ
+totalsOf s = s .session .near ∷ s .session .far ∷ []
+
+-- the state that lies in arrays held together
 abbrev pub shown : StateArrays → State
 shown a = viewOf (a .set) (a .names) (a .ids) (a .timers) (a .rdi) (a .run) (a .totals)
 
@@ -66,29 +96,31 @@ shown a = viewOf (a .set) (a .names) (a .ids) (a .timers) (a .rdi) (a .run) (a .
 abbrev pub lying : RefT (List ℕ) → RefT (List ℕ) → RefT (List ℕ) → RefT (List ℕ) → RefT (List ℕ) → RefT (List ℕ) → RefT (List ℤ) → State
 lying set names ids timers rdi run totals = viewOf (now set) (now names) (now ids) (now timers) (now rdi) (now run) (now totals)
 
--- an array that is lent to a call, as it is when the call begins and when it ends
-abbrev pub Lent : Type 0
-Lent = Both (RefT (List ℕ)) (RefT (List ℕ))
-
+-- totals that are lent to a call, as they are when the call begins and when it ends
 abbrev pub LentTotals : Type 0
 LentTotals = Both (RefT (List ℤ)) (RefT (List ℤ))
 
 -- the state when a call begins
 abbrev pub before : Lent → Lent → Lent → Lent → Lent → Lent → LentTotals → State
-before set names ids timers rdi run totals = lying (set .entry) (names .entry) (ids .entry) (timers .entry) (rdi .entry) (run .entry) (totals .entry)
+before set names ids timers rdi run totals =
+    lying (set .entry) (names .entry) (ids .entry) (timers .entry) (rdi .entry) (run .entry) (totals .entry)
 
 -- the state when a call ends: the settings are never written
 abbrev pub after : Lent → Lent → Lent → Lent → Lent → Lent → LentTotals → State
-after set names ids timers rdi run totals = lying (set .entry) (names .entry) (ids .entry) (timers .exit) (rdi .exit) (run .exit) (totals .exit)
+after set names ids timers rdi run totals =
+    lying (set .entry) (names .entry) (ids .entry) (timers .exit) (rdi .exit) (run .exit) (totals .exit)
 
 -- the same of a call that writes the running words and totals alone
 abbrev pub afterSession : Lent → Lent → Lent → Lent → Lent → Lent → LentTotals → State
-afterSession set names ids timers rdi run totals = lying (set .entry) (names .entry) (ids .entry) (timers .entry) (rdi .entry) (run .exit) (totals .exit)
+afterSession set names ids timers rdi run totals =
+    lying (set .entry) (names .entry) (ids .entry) (timers .entry) (rdi .entry) (run .exit) (totals .exit)
 
 -- of one that writes timers and running words
 abbrev pub afterTick : Lent → Lent → Lent → Lent → Lent → Lent → LentTotals → State
-afterTick set names ids timers rdi run totals = lying (set .entry) (names .entry) (ids .entry) (timers .exit) (rdi .entry) (run .exit) (totals .entry)
+afterTick set names ids timers rdi run totals =
+    lying (set .entry) (names .entry) (ids .entry) (timers .exit) (rdi .entry) (run .exit) (totals .entry)
 
 -- of one that writes timers, RDI and running words
 abbrev pub afterSignal : Lent → Lent → Lent → Lent → Lent → Lent → LentTotals → State
-afterSignal set names ids timers rdi run totals = lying (set .entry) (names .entry) (ids .entry) (timers .exit) (rdi .exit) (run .exit) (totals .entry)
+afterSignal set names ids timers rdi run totals =
+    lying (set .entry) (names .entry) (ids .entry) (timers .exit) (rdi .exit) (run .exit) (totals .entry)

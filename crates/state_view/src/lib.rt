@@ -3,7 +3,18 @@ ghost use mathlib.Core.Path.{_≡_};
 ghost use Rattle.state_view.specs.State.{sessionIn};
 use loss_session::LossSession;
 use loss_session::Readings;
-use state_settings::PEERS;
+use state_settings::Names;
+use state_settings::Set;
+use state_settings::Slots;
+
+// How many running words there are, and how many totals: the definitions have theirs, `runWords` and `lossTotals`.
+pub const RUN: usize = 15;
+
+pub const TOTALS: usize = 2;
+
+pub type Run = [u32; RUN];
+
+pub type Totals = [i64; TOTALS];
 
 // Where the running words lie: the timers of the conditions, the ticks to the next CCM, the service counts, the loss session.
 pub const MISMERGE: usize = 0;
@@ -44,17 +55,17 @@ pub const FAR: usize = 1;
 // A state as it lies in its seven arrays: settings' words, names, peers' IDs; peers' timers, peers' RDI, running words, totals.
 #[repr(C)]
 pub struct StateArrays {
-    pub set: [u32; 4],
-    pub names: [u8; 60],
-    pub ids: [u32; PEERS],
-    pub timers: [u32; PEERS],
-    pub rdi: [u32; PEERS],
-    pub run: [u32; 15],
-    pub totals: [i64; 2],
+    pub set: Set,
+    pub names: Names,
+    pub ids: Slots,
+    pub timers: Slots,
+    pub rdi: Slots,
+    pub run: Run,
+    pub totals: Totals,
 }
 
 // The loss session of a state.
-pub fn session_of(run: &[u32; 15], totals: &[i64; 2]) -> LossSession
+pub fn session_of(run: &Run, totals: &Totals) -> LossSession
     ensures { λ r. ⌜ r ≡ sessionIn (now (run .entry)) (now (totals .entry)) ⌝ }
 {
     let near = totals[NEAR];

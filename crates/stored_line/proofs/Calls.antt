@@ -8,15 +8,16 @@ use native.Mathlib.Omega.{arith}
 use lib.Dec.{eqb}
 use lib.ListN.{length, length-append}
 use borrow.Author.Tests.{eqb-false, not-true, not-false}
+use Rattle.base_laws.specs.Ended.{wrote}
 use Rattle.base_laws.specs.Tests.{choose}
 use Rattle.base_laws.specs.Lists.{part, laid}
 use Rattle.base_laws.proofs.Tests.{known, choose-map}
 use Rattle.base_laws.proofs.Apart.{part-front}
-use Rattle.base_octets.specs.Numbers.{Octets}
+use Rattle.base_octets.specs.Octets.{Octets}
 use Rattle.stored_record.specs.declared.RecordAnswer.{RecordAnswer}
 use Rattle.stored_record.specs.declared.RecordAnswer.the-variants as stored
 use Rattle.stored_record.specs.Record.{recordOf, isRecord, IsRecord, NoRecord}
-use Rattle.stored_record.specs.Writing.{RecordEnd, ended, writeRecord}
+use Rattle.stored_record.specs.Writing.{writeRecord}
 use Rattle.stored_record.specs.Writing as writing
 use Rattle.stored_record.proofs.Laws.{records, record-long, record-to, record-from}
 use Rattle.stored_record.proofs.Writing.{writing}
@@ -170,13 +171,13 @@ module _ (line : LossLine) (buffer : List ℕ) where
   unfolding writeLine
   untouched n = writing .refused (keepsRules line) 2 (lineBody line) buffer n
 
-  writes : KeepsRules line → 24 ≤ length buffer → writeLine line buffer ≡ ended (stored.Octets 24) (laid 0 (lineRecord line) buffer)
+  writes : KeepsRules line → 24 ≤ length buffer → writeLine line buffer ≡ wrote (stored.Octets 24) (laid 0 (lineRecord line) buffer)
   unfolding writeLine
   writes k h =
       let long = body-long line in
       ap (λ (good : Bool). writeRecord good 2 (lineBody line) buffer) (rules line .1 k)
       ∙ writing .writes 2 (lineBody line) buffer (omega (arith, long)) (omega (arith, long))
-      ∙ ap (λ (n : ℕ). ended (stored.Octets (4 + n)) (laid 0 (lineRecord line) buffer)) long
+      ∙ ap (λ (n : ℕ). wrote (stored.Octets (4 + n)) (laid 0 (lineRecord line) buffer)) long
 
 zeros : (octets : List ℕ) → readLine octets ≡ Refused → numbersOf octets ≡ seven
 unfolding told

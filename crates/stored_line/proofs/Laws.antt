@@ -14,8 +14,10 @@ use Rattle.base_laws.proofs.Lists.{part-append, part-here}
 use Rattle.base_laws.proofs.Apart.{part-part, laid-whole}
 use Rattle.base_laws.proofs.Pieces.{first, more}
 use Rattle.base_laws.proofs.Stored.{fits-size}
-use Rattle.base_octets.specs.Numbers.{littleEndian, number, inOctets, Octets}
-use Rattle.base_octets.proofs.Laws.{length-octets, number-back, read-again, signed-octets, signed-again}
+use Rattle.base_octets.specs.Octets.{Octets}
+use Rattle.base_numbers.specs.Numbers.{littleEndian, number, inOctets}
+use Rattle.base_numbers.proofs.Laws.{length-octets, number-back, read-again}
+use Rattle.base_signed.proofs.Laws.{signed-octets, signed-again}
 use Rattle.loss_session.specs.Session.{Side, near, far, totalOf, WellFormed}
 use Rattle.loss_session.proofs.Laws.{well}
 use Rattle.stored_record.proofs.Laws.{record-long}

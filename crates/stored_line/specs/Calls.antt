@@ -7,19 +7,21 @@ use mathlib.Core.Bool.{true, not}
 use mathlib.Core.Logic.{_↔_, _⊎_}
 use lib.IntN.{pos}
 use lib.ListN.{length}
+use Rattle.base_laws.specs.Ended.{Wrote, wrote}
 use Rattle.base_laws.specs.Tests.{choose}
 use Rattle.base_laws.specs.Lists.{part, laid}
-use Rattle.base_octets.specs.Numbers.{Octets}
+use Rattle.base_octets.specs.Octets.{Octets}
 use Rattle.stored_record.specs.declared.RecordAnswer.the-variants as stored
 use Rattle.stored_record.specs.declared.RecordTold.{RecordTold}
 use Rattle.stored_record.specs.Record.{isRecord, NoRecord}
-use Rattle.stored_record.specs.Writing.{RecordEnd, ended, writeRecord}
+use Rattle.stored_record.specs.Writing.{writeRecord}
 use Rattle.stored_record.specs.Writing as writing
 use Rattle.stored_line.specs.declared.LossLine.{LossLine}
 use Rattle.stored_line.specs.declared.LineAnswer.{LineAnswer}
 use Rattle.stored_line.specs.declared.LineAnswer.the-variants.{Refused, Line}
 use Rattle.stored_line.specs.declared.LineTold.{LineTold}
 use Rattle.stored_line.specs.Line.{KeepsRules, keepsRules, lineBody, lineRecord, lineIn}
+use Rattle.stored_record.specs.declared.RecordAnswer.{RecordAnswer}
 
 -- refusal 7 where there is no whole record of kind 2 with 20 octets of body, or its values break a rule; else the line
 unfoldable pub readLine : List ℕ → LineAnswer
@@ -31,7 +33,7 @@ readLine octets =
     (Line (lineIn octets))
 
 -- the record of the line, if it keeps the rules
-unfoldable pub writeLine : LossLine → List ℕ → RecordEnd
+unfoldable pub writeLine : LossLine → List ℕ → Wrote RecordAnswer
 writeLine line buffer = writeRecord (keepsRules line) 2 (lineBody line) buffer
 
 -- and the numbers that it is told in
@@ -78,4 +80,4 @@ pub record LossRecords : Type 0 where
   pub refuses-3 : (line : LossLine) (buffer : List ℕ) → (writeLine line buffer .answer ≡ stored.NoRoom) ↔ (KeepsRules line × (length buffer < 24))
   pub refused : (line : LossLine) (buffer : List ℕ) → ((writing.told (writeLine line buffer .answer) .refusal ≡ 0) → ⊥) → writeLine line buffer .buffer ≡ buffer
   -- any other line is written, and the octets behind its 24 stay
-  pub writes : (line : LossLine) (buffer : List ℕ) → KeepsRules line → 24 ≤ length buffer → writeLine line buffer ≡ ended (stored.Octets 24) (laid 0 (lineRecord line) buffer)
+  pub writes : (line : LossLine) (buffer : List ℕ) → KeepsRules line → 24 ≤ length buffer → writeLine line buffer ≡ wrote (stored.Octets 24) (laid 0 (lineRecord line) buffer)

@@ -7,15 +7,15 @@ use lib.IntN.{ℤ, natAbs}
 use mir.Syntax.{w64}
 use mir.Val.{toZ, ofZ}
 use Rattle.base_laws.specs.Lists.{part}
-use Rattle.base_octets.specs.Numbers.{littleEndian, number, inOctets}
+use Rattle.base_numbers.specs.Numbers.{littleEndian, number, inOctets}
 use Rattle.loss_session.specs.declared.LossSession.{LossSession}
-use Rattle.loss_session.specs.Session.{noReadings, wellFormed}
+use Rattle.loss_session.specs.Session.{noReadings, wellFormed, mostIntervals}
 use Rattle.stored_record.specs.Record.{recordOf}
 use Rattle.stored_line.specs.declared.LossLine.{LossLine}
 
 -- what is meant by its rules
 pub record KeepsRules (line : LossLine) : Type 0 where
-  pub few : line .intervals ≤ 1000000000
+  pub few : line .intervals ≤ mostIntervals
   pub near : natAbs (line .near) ≤ line .intervals * 4294967295
   pub far : natAbs (line .far) ≤ line .intervals * 4294967295
 

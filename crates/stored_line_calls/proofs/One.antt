@@ -2,7 +2,7 @@
 -- reads off the source's own clauses. Assumes nothing.
 use mathlib.Core.Path.{_≡_, sym, ap, _∙_}
 use denote.Ref.{now}
-use Rattle.stored_record.specs.Writing.{RecordEnd}
+use Rattle.base_laws.proofs.Ended.{answer-is, buffer-is}
 use Rattle.stored_line_calls.proofs.read_line.Reads as read-line
 use Rattle.stored_line_calls.proofs.write_line.Reads as write-line
 
@@ -10,4 +10,4 @@ pub read-line-one : (κs : _) (a : _) (r r′ : _) (s s′ : _) → read-line.Po
 read-line-one κs a r r′ s s′ p q = p .0 ∙ sym (q .0)
 
 pub write-line-one : (κs : _) (a : _) (r r′ : _) (s s′ : _) → write-line.Post κs a r s → write-line.Post κs a r′ s′ → (r ≡ r′) × (now (s .0) ≡ now (s′ .0))
-write-line-one κs a r r′ s s′ p q = (ap (λ (t : RecordEnd). t .answer) (p .0 ∙ sym (q .0)), ap (λ (t : RecordEnd). t .buffer) (p .0 ∙ sym (q .0)))
+write-line-one κs a r r′ s s′ p q = (answer-is (p .0 ∙ sym (q .0)), buffer-is (p .0 ∙ sym (q .0)))

@@ -2,22 +2,22 @@
 ghost use mathlib.Core.Path.{_≡_};
 ghost use Prim.Native.Nat.{_≤_};
 ghost use lib.ListN.{length};
-ghost use Rattle.stored_record.specs.Writing.{ended};
+ghost use Rattle.base_laws.specs.Ended.{wrote};
 ghost use Rattle.stored_record.specs.Writing as written;
 ghost use Rattle.stored_line.specs.Line.{keepsRules, lineIn};
 ghost use Rattle.stored_line.specs.Calls.{readLine, writeLine, writtenNumbers, told, numbersOf};
-use base_octets::numbers::read_little;
-use base_octets::numbers::read_little_signed;
-use base_octets::numbers::write_little;
-use base_octets::numbers::write_little_signed;
+use base_numbers::read_little;
+use base_numbers::write_little;
+use base_signed::read_little_signed;
+use base_signed::write_little_signed;
 use loss_session::LossSession;
 use loss_session::Readings;
 use loss_session::well_formed;
-use stored_head::is_record;
-use stored_head::write_record;
 use stored_line::LineAnswer;
 use stored_line::LossLine;
 use stored_record::RecordAnswer;
+use stored_record::is_record;
+use stored_record::write_record;
 
 // The record's kind, and the octets of its body.
 const KIND: u16 = 2;
@@ -77,7 +77,8 @@ pub fn read_line(from: &[u8]) -> LineAnswer
 
 // Writes a loss line's record into the front of the buffer: refused with 4 where it breaks a rule, and then with 3 where there is no room.
 pub fn write_line(into: &mut [u8], line: LossLine) -> RecordAnswer
-    ensures { λ r. ⌜ (ended r (now (into .exit)) ≡ writeLine line (now (into .entry))) × (written.told r ≡ writtenNumbers line (now (into .entry))) ⌝ }
+    ensures { λ r. ⌜ (wrote r (now (into .exit)) ≡ writeLine line (now (into .entry)))
+        × (written.told r ≡ writtenNumbers line (now (into .entry))) ⌝ }
 {
     let mut body = [0u8; BODY];
     write_little_signed(&mut body, 0, line.near);

@@ -17,7 +17,7 @@ use Rattle.base_clock.proofs.Runs.{after-append}
 use Rattle.loss_session.specs.declared.Readings.{Readings}
 use Rattle.loss_session.specs.declared.LossSession.{LossSession}
 use Rattle.loss_reading.specs.declared.Updated.{Updated}
-use Rattle.loss_session.specs.Session.{Side, near, far, totalOf, clearedSession, WellFormed, wellFormed}
+use Rattle.loss_session.specs.Session.{Side, near, far, totalOf, clearedSession, WellFormed, wellFormed, mostIntervals, mostReadings}
 use Rattle.loss_reading.specs.Reading.{afterReading}
 use Rattle.loss_reading.specs.Told.{told, numbersOf}
 use Rattle.loss_reading.proofs.Laws.{sessions}
@@ -70,7 +70,7 @@ one-more ts t =
     ∙ ap (leaves afterReading clearedSession) (sym (map-append shown ts (t ∷ [])))
 
 -- its line is the account's
-line-is : (ts : List Counts) → length ts ≤ 1000000001 → Steady ts → lineOf (reached ts) ≡ accountLine ts
+line-is : (ts : List Counts) → length ts ≤ mostReadings → Steady ts → lineOf (reached ts) ≡ accountLine ts
 line-is ts few steady =
     let b = ours ts few steady in
     rw (b .totals near, b .totals far, b .intervals)
@@ -79,15 +79,15 @@ line-kept : (rs : List Readings) → KeepsRules (lineOf (leaves afterReading cle
 line-kept rs = let w = well rs in record { few = w .few; near = w .total near; far = w .total far }
 
 -- it takes another reply while there are fewer than 1,000,000,001
-takes-more : (s : LossSession) (r : Readings) → WellFormed s → s .intervals < 1000000000 → numbersOf s r .refusal ≡ 0
+takes-more : (s : LossSession) (r : Readings) → WellFormed s → s .intervals < mostIntervals → numbersOf s r .refusal ≡ 0
 unfolding numbersOf choose
 takes-more s r w few = by (known (eqb (s .kept) 0))
   where
     good : wellFormed s ≡ true
     good = sessions .well s .1 w
 
-    room : eqb (s .intervals) 1000000000 ≡ false
-    room = ne-eqb (s .intervals) 1000000000 (λ e. omega (arith, few, e))
+    room : eqb (s .intervals) mostIntervals ≡ false
+    room = ne-eqb (s .intervals) mostIntervals (λ e. omega (arith, few, e))
 
     by : (eqb (s .kept) 0 ≡ true) ⊎ (eqb (s .kept) 0 ≡ false) → numbersOf s r .refusal ≡ 0
     by (inl t) = rw (good, t)
@@ -102,7 +102,7 @@ record Goes (w : Worked) (lines : List LossLine) (n : ℕ) : Type 0 where
   all-taken : w .taken ≡ n
   printed : Prints (recordsOf lines) (textsOf lines)
 
-goes : (ts before : List Counts) → length (before ++ ts) ≤ 1000000001 → Steady (before ++ ts)
+goes : (ts before : List Counts) → length (before ++ ts) ≤ mostReadings → Steady (before ++ ts)
     → Goes (worked (reached before) (map shown ts)) (accountLines before ts) (length ts)
 unfolding accountLines joined
 goes [] before few steady =
@@ -152,7 +152,7 @@ goes (t ∷ ts) before few steady = by (goes ts (before ++ (t ∷ [])) (rw (appe
 
 -- ── the statement ──
 
-module _ (ts : List Counts) (few : length ts ≤ 1000000001) (steady : Steady ts) where
+module _ (ts : List Counts) (few : length ts ≤ mostReadings) (steady : Steady ts) where
   read-back : recounted (rawReplies (map shown ts)) ≡ worked clearedSession (map shown ts)
   read-back = ap (worked clearedSession) (raw-back (map shown ts) (shown-small ts))
 
@@ -165,7 +165,7 @@ module _ (ts : List Counts) (few : length ts ≤ 1000000001) (steady : Steady ts
       ap sheetOf (month .records-are)
       ∙ ap (λ (l : List ℕ). headerText ++ l) (sym (sheets .only (recordsOf (accountLines [] ts)) (textsOf (accountLines [] ts)) (month .printed)))
 
-full : (rs more : List Readings) (r : Readings) → 1000000001 ≤ length rs
+full : (rs more : List Readings) (r : Readings) → mostReadings ≤ length rs
     → worked (leaves afterReading clearedSession rs) (r ∷ more) ≡ stopped 5 (leaves afterReading clearedSession rs)
 unfolding told
 full rs more r many =

@@ -8,8 +8,8 @@ use lib.ListN.{length, drop, length-append}
 use lib.Seq.{drop-at}
 use Rattle.base_laws.specs.Lists.{part}
 use Rattle.base_laws.proofs.Lists.{part-here}
-use Rattle.base_octets.specs.Numbers.{littleEndian, number, inOctets}
-use Rattle.base_octets.proofs.Laws.{length-octets, number-back, number-here}
+use Rattle.base_numbers.specs.Numbers.{littleEndian, number, inOctets}
+use Rattle.base_numbers.proofs.Laws.{length-octets, number-back, number-here}
 use Rattle.loss_session.specs.declared.Readings.{Readings}
 use Rattle.loss_session.specs.Session.{Side, readings, near, far, sentOf, receivedOf}
 use Rattle.stored_sheet.specs.Sheet.{joined}

@@ -1,13 +1,13 @@
--- A month worked again: raw replies, the stored lines that `stored_recount` writes of them, and the sheet that `stored_sheet_lines`
+-- A month worked again: raw replies, the stored lines that `stored_replies` writes of them, and the sheet that `stored_sheet_lines`
 -- prints of those. The order, demand 3: the totals agree with an account kept in unlimited whole numbers. Definitions and the statement
 -- only.
 use Prim.Native.Nat.{ℕ, _-_, _≤_}
 use mathlib.Core.Path.{_≡_}
 use mathlib.Core.List.{List, [], _∷_, _++_, map}
 use lib.ListN.{length}
-use Rattle.base_octets.specs.Numbers.{littleEndian, inOctets}
+use Rattle.base_numbers.specs.Numbers.{littleEndian, inOctets}
 use Rattle.loss_session.specs.declared.Readings.{Readings}
-use Rattle.loss_session.specs.Session.{near, far, readings, clearedSession}
+use Rattle.loss_session.specs.Session.{near, far, readings, clearedSession, mostReadings}
 use Rattle.loss_reading.specs.Reading.{afterReading}
 use Rattle.stored_line.specs.declared.LossLine.{LossLine}
 use Rattle.stored_line.specs.Line.{lineRecord}
@@ -59,14 +59,14 @@ pub record Months : Type 0 where
   -- readings of 32 bits come back from their raw form
   pub raw-back : (rs : List Readings) → Small rs → replies (rawReplies rs) ≡ rs
   -- of true counts that neither fall nor grow by 2^32 between two replies, every reply is taken, and the account's lines are written
-  pub taken : (ts : List Counts) → length ts ≤ 1000000001 → Steady ts
+  pub taken : (ts : List Counts) → length ts ≤ mostReadings → Steady ts
       → (recounted (rawReplies (map shown ts)) .halted ≡ 0) × (recounted (rawReplies (map shown ts)) .taken ≡ length ts)
-  pub written : (ts : List Counts) → length ts ≤ 1000000001 → Steady ts → recounted (rawReplies (map shown ts)) .records ≡ recordsOf (accountLines [] ts)
+  pub written : (ts : List Counts) → length ts ≤ mostReadings → Steady ts → recounted (rawReplies (map shown ts)) .records ≡ recordsOf (accountLines [] ts)
   -- and the sheet of them is the account's sheet
-  pub sheet : (ts : List Counts) → length ts ≤ 1000000001 → Steady ts
+  pub sheet : (ts : List Counts) → length ts ≤ mostReadings → Steady ts
       → sheetOf (recounted (rawReplies (map shown ts)) .records) ≡ headerText ++ textsOf (accountLines [] ts)
   -- behind 1,000,000,001 replies the work halts with 5 at the next, and nothing more is taken or written
-  pub full : (rs more : List Readings) (r : Readings) → 1000000001 ≤ length rs
+  pub full : (rs more : List Readings) (r : Readings) → mostReadings ≤ length rs
       → worked (leaves afterReading clearedSession rs) (r ∷ more) ≡ stopped 5 (leaves afterReading clearedSession rs)
   -- the grain quay: -1, and not 4,294,967,295
   pub grain-quay : sheetOf (recounted (rawReplies quay) .records) ≡ quaySheet

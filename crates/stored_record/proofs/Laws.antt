@@ -13,8 +13,9 @@ use Rattle.base_laws.proofs.Tests.{known, both-true}
 use Rattle.base_laws.proofs.Lists.{part-append, part-here, length-part}
 use Rattle.base_laws.proofs.Apart.{part-front}
 use Rattle.base_laws.proofs.Pieces.{first, more}
-use Rattle.base_octets.specs.Numbers.{littleEndian, number, inOctets, Octets}
-use Rattle.base_octets.proofs.Laws.{length-octets, number-back, read-again}
+use Rattle.base_octets.specs.Octets.{Octets}
+use Rattle.base_numbers.specs.Numbers.{littleEndian, number, inOctets}
+use Rattle.base_numbers.proofs.Laws.{length-octets, number-back, read-again}
 use Rattle.stored_record.specs.Record.{headOf, recordOf, lengthField, kindField, IsRecord, NoRecord, no-head, wrong-length, wrong-kind, cut-short, isRecord, Records}
 
 -- ── how long it is ──

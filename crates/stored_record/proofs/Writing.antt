@@ -7,13 +7,15 @@ use mathlib.Core.Logic.{_↔_, _⊎_, inl, inr, ⊎-elim}
 use lib.Dec.{ltb, eqb}
 use lib.ListN.{length}
 use borrow.Author.Tests.{ltb-true, ltb-false, lt-ltb, le-ltb, eqb-false, not-true, not-false}
+use Rattle.base_laws.specs.Ended.{Wrote, wrote}
+use Rattle.base_laws.proofs.Ended.{answer-is, buffer-is}
 use Rattle.base_laws.specs.Tests.{choose}
 use Rattle.base_laws.specs.Lists.{laid}
 use Rattle.base_laws.proofs.Tests.{known, either-true, choose-map}
 use Rattle.stored_record.specs.declared.RecordAnswer.{RecordAnswer}
 use Rattle.stored_record.specs.declared.RecordAnswer.the-variants.{BreaksRule, NoRoom, Octets}
 use Rattle.stored_record.specs.Record.{recordOf}
-use Rattle.stored_record.specs.Writing.{RecordEnd, ended, writeRecord, told, numbersOf, Writes}
+use Rattle.stored_record.specs.Writing.{writeRecord, told, numbersOf, Writes}
 
 -- the first test
 abbrev breaks : Bool → List ℕ → Bool
@@ -42,21 +44,21 @@ fits good body h = keeps good body h .1
 -- ── one law for each way ──
 
 module _ (good : Bool) (kind : ℕ) (body buffer : List ℕ) where
-  abbrev o : RecordEnd
+  abbrev o : Wrote RecordAnswer
   o = writeRecord good kind body buffer
 
   pub agree : told (o .answer) ≡ numbersOf good body buffer
   unfolding writeRecord told numbersOf
-  agree = choose-map (λ (t : RecordEnd). told (t .answer)) _ _
+  agree = choose-map (λ (t : Wrote RecordAnswer). told (t .answer)) _ _
 
   -- r and y are the outcome, and r is told by its numbers
   abbrev pub Outcome : RecordAnswer → List ℕ → Type 0
-  Outcome r y = (ended r y ≡ o) × (told r ≡ numbersOf good body buffer)
+  Outcome r y = (wrote r y ≡ o) × (told r ≡ numbersOf good body buffer)
 
-  told-so : {r : RecordAnswer} {y : List ℕ} → ended r y ≡ o → Outcome r y
-  told-so e = (e, ap (λ (t : RecordEnd). told (t .answer)) e ∙ agree)
+  told-so : {r : RecordAnswer} {y : List ℕ} → wrote r y ≡ o → Outcome r y
+  told-so e = (e, ap (λ (t : Wrote RecordAnswer). told (t .answer)) e ∙ agree)
 
-  ended-4 : breaks good body ≡ true → ended BreaksRule buffer ≡ o
+  ended-4 : breaks good body ≡ true → wrote BreaksRule buffer ≡ o
   unfolding writeRecord choose
   ended-4 h = rw h
 
@@ -64,11 +66,11 @@ module _ (good : Bool) (kind : ℕ) (body buffer : List ℕ) where
   ends-4 h = told-so (ended-4 h)
 
   module _ (k : breaks good body ≡ false) where
-    ended-3 : length buffer < 4 + length body → ended NoRoom buffer ≡ o
+    ended-3 : length buffer < 4 + length body → wrote NoRoom buffer ≡ o
     unfolding writeRecord choose
     ended-3 h = rw (k, lt-ltb (length buffer) (4 + length body) h)
 
-    ended-written : {after : List ℕ} → 4 + length body ≤ length buffer → after ≡ laid 0 (recordOf kind body) buffer → ended (Octets (4 + length body)) after ≡ o
+    ended-written : {after : List ℕ} → 4 + length body ≤ length buffer → after ≡ laid 0 (recordOf kind body) buffer → wrote (Octets (4 + length body)) after ≡ o
     unfolding writeRecord choose
     ended-written h e = rw (k, le-ltb (length buffer) (4 + length body) h, e)
 
@@ -99,13 +101,13 @@ module _ (good : Bool) (kind : ℕ) (body buffer : List ℕ) where
       (known (breaks good body))
 
   at-4 : breaks good body ≡ true → writeRecord good kind body buffer .answer ≡ BreaksRule
-  at-4 h = ap (λ (t : RecordEnd). t .answer) (sym (ended-4 good kind body buffer h))
+  at-4 h = answer-is (sym (ended-4 good kind body buffer h))
 
   at-3 : breaks good body ≡ false → length buffer < 4 + length body → writeRecord good kind body buffer .answer ≡ NoRoom
-  at-3 k h = ap (λ (t : RecordEnd). t .answer) (sym (ended-3 good kind body buffer k h))
+  at-3 k h = answer-is (sym (ended-3 good kind body buffer k h))
 
   at-0 : breaks good body ≡ false → 4 + length body ≤ length buffer → writeRecord good kind body buffer .answer ≡ Octets (4 + length body)
-  at-0 k h = ap (λ (t : RecordEnd). t .answer) (sym (ended-written good kind body buffer k h refl))
+  at-0 k h = answer-is (sym (ended-written good kind body buffer k h refl))
 
   only-4 : Way → writeRecord good kind body buffer .answer ≡ BreaksRule → (good ≡ false) ⊎ (65533 < length body)
   unfolding told
@@ -121,8 +123,8 @@ module _ (good : Bool) (kind : ℕ) (body buffer : List ℕ) where
 
   untouched : Way → (told (writeRecord good kind body buffer .answer) .refusal ≡ 0 → ⊥) → writeRecord good kind body buffer .buffer ≡ buffer
   unfolding told
-  untouched (way-4 h) n = ap (λ (t : RecordEnd). t .buffer) (sym (ended-4 good kind body buffer h))
-  untouched (way-3 k h) n = ap (λ (t : RecordEnd). t .buffer) (sym (ended-3 good kind body buffer k h))
+  untouched (way-4 h) n = buffer-is (sym (ended-4 good kind body buffer h))
+  untouched (way-3 k h) n = buffer-is (sym (ended-3 good kind body buffer k h))
   untouched (way-0 k h) n = absurd (n (ap (λ (r : RecordAnswer). told r .refusal) (at-0 k h)))
 
 zeros : (answer : RecordAnswer) → (told answer .refusal ≡ 0 → ⊥) → told answer .length ≡ 0

@@ -9,7 +9,8 @@ use mathlib.Core.Logic.{_↔_}
 use lib.Dec.{leb, eqb}
 use lib.ListN.{length}
 use Rattle.base_laws.specs.Lists.{part}
-use Rattle.base_octets.specs.Numbers.{littleEndian, number, inOctets, Octets}
+use Rattle.base_octets.specs.Octets.{Octets}
+use Rattle.base_numbers.specs.Numbers.{littleEndian, number, inOctets}
 
 -- length and kind
 unfoldable pub headOf : ℕ → ℕ → List ℕ

@@ -9,27 +9,20 @@ use lib.Dec.{ltb}
 use lib.ListN.{length}
 use Rattle.base_laws.specs.Tests.{choose}
 use Rattle.base_laws.specs.Lists.{laid}
+use Rattle.base_laws.specs.Ended.{Wrote, wrote}
 use Rattle.stored_record.specs.declared.RecordAnswer.{RecordAnswer}
 use Rattle.stored_record.specs.declared.RecordAnswer.the-variants.{BreaksRule, NoRoom, Octets}
 use Rattle.stored_record.specs.declared.RecordTold.{RecordTold}
 use Rattle.stored_record.specs.Record.{recordOf}
 
--- what is answered, and what the buffer then holds
-pub record RecordEnd : Type 0 where
-  pub answer : RecordAnswer
-  pub buffer : List ℕ
-
-abbrev pub ended : RecordAnswer → List ℕ → RecordEnd
-ended answer buffer = record { answer = answer; buffer = buffer }
-
 -- refusal 4 where the values break a rule, or two octets cannot tell the length; refusal 3; the record laid over the buffer's first octets
-unfoldable pub writeRecord : Bool → ℕ → List ℕ → List ℕ → RecordEnd
+unfoldable pub writeRecord : Bool → ℕ → List ℕ → List ℕ → Wrote RecordAnswer
 writeRecord good kind body buffer =
     choose (
-    (not good || ltb 65533 (length body), ended BreaksRule buffer)
-    ∷ (ltb (length buffer) (4 + length body), ended NoRoom buffer)
+    (not good || ltb 65533 (length body), wrote BreaksRule buffer)
+    ∷ (ltb (length buffer) (4 + length body), wrote NoRoom buffer)
     ∷ [])
-    (ended (Octets (4 + length body)) (laid 0 (recordOf kind body) buffer))
+    (wrote (Octets (4 + length body)) (laid 0 (recordOf kind body) buffer))
 
 -- ── in the paper's numbers ──
 
@@ -62,7 +55,7 @@ pub record Writes : Type 0 where
       → ((told (writeRecord good kind body buffer .answer) .refusal ≡ 0) → ⊥) → writeRecord good kind body buffer .buffer ≡ buffer
   -- any other record is written, and the octets behind it stay
   pub writes : (kind : ℕ) (body buffer : List ℕ) → length body ≤ 65533 → 4 + length body ≤ length buffer
-      → writeRecord true kind body buffer ≡ ended (Octets (4 + length body)) (laid 0 (recordOf kind body) buffer)
+      → writeRecord true kind body buffer ≡ wrote (Octets (4 + length body)) (laid 0 (recordOf kind body) buffer)
   -- the answer is told in these numbers; beside a refusal the length is 0
   pub agree : (good : Bool) (kind : ℕ) (body buffer : List ℕ) → told (writeRecord good kind body buffer .answer) ≡ numbersOf good body buffer
   pub zeros : (answer : RecordAnswer) → ((told answer .refusal ≡ 0) → ⊥) → told answer .length ≡ 0

@@ -1,7 +1,16 @@
-// A stored record of any kind: what writing one is answered, in cases and in the paper's numbers.
-// What a record is stands in specs/.
+// A stored record of any kind: its head tested, head and body written, and what writing one is answered.
+// The head is two octets with the length of all that follows them and two with the kind; then comes the body. What a record is stands in
+// specs/.
 ghost use mathlib.Core.Path.{_≡_};
-ghost use Rattle.stored_record.specs.Writing.{told};
+ghost use Rattle.stored_record.specs.Writing.{told, writeRecord, numbersOf};
+ghost use Prim.Native.Nat.{_+_, _≤_};
+ghost use lib.ListN.{length};
+ghost use Rattle.base_laws.specs.Ended.{wrote};
+ghost use Rattle.base_laws.specs.Lists.{laid};
+ghost use Rattle.stored_record.specs.Record.{recordOf, isRecord};
+use base_numbers::read_little;
+use base_numbers::write_little;
+use base_octets::copy_octets;
 
 // What writing a record is answered.
 pub enum RecordAnswer {
@@ -38,4 +47,49 @@ pub fn tell(answer: RecordAnswer) -> RecordTold
             length: n,
         },
     }
+}
+
+// The octets in front of a record's body.
+pub const HEAD: usize = 4;
+
+// The longest body whose length two octets can tell.
+const LONGEST: usize = 65533;
+
+// Tells whether the octets begin with a whole record of this kind that has a body of so many octets. What stands behind it is not looked at.
+pub fn is_record(from: &[u8], kind: u16, body: usize) -> bool
+    ensures { λ r. ⌜ r ≡ isRecord kind body (now (from .entry)) ⌝ }
+{
+    if from.len() < HEAD {
+        return false;
+    }
+    if from.len() - HEAD < body {
+        return false;
+    }
+    (read_little(from, 0, 2) as usize == body + 2) & (read_little(from, 2, 2) == kind as u32)
+}
+
+// Writes the head and the body of a record that the buffer has room for.
+fn put_record(into: &mut [u8], kind: u16, body: &[u8])
+    requires { ⌜ (4 + length (now body) ≤ length (now into)) × (length (now body) ≤ 65533) ⌝ }
+    ensures { λ _. ⌜ now (into .exit) ≡ laid 0 (recordOf kind (now (body .entry))) (now (into .entry)) ⌝ }
+{
+    write_little(into, 0, 2, (body.len() + 2) as u32);
+    write_little(into, 2, 2, kind as u32);
+    copy_octets(into, HEAD, body);
+}
+
+// Writes a record of a kind into the front of the buffer. `good` says whether the values keep their rules: one that breaks a rule is refused before the
+// buffer's room is looked at, and so is a body that no record can hold.
+pub fn write_record(into: &mut [u8], kind: u16, body: &[u8], good: bool) -> RecordAnswer
+    ensures { λ r. ⌜ (wrote r (now (into .exit)) ≡ writeRecord good kind (now (body .entry)) (now (into .entry)))
+        × (told r ≡ numbersOf good (now (body .entry)) (now (into .entry))) ⌝ }
+{
+    if !good | (LONGEST < body.len()) {
+        return RecordAnswer::BreaksRule;
+    }
+    if into.len() < HEAD + body.len() {
+        return RecordAnswer::NoRoom;
+    }
+    put_record(into, kind, body);
+    RecordAnswer::Octets(HEAD + body.len())
 }

@@ -8,34 +8,36 @@ use native.Mathlib.Omega.{arith}
 use lib.Dec.{ltb}
 use lib.ListN.{length}
 use borrow.Author.Tests.{ltb-true, ltb-false}
+use Rattle.base_laws.specs.Ended.{Wrote, wrote}
 use Rattle.base_laws.specs.Lists.{laid}
 use Rattle.base_laws.proofs.Tests.{known}
 use Rattle.loss_session.specs.declared.LossSession.{LossSession}
 use Rattle.loss_session.specs.Session.{WellFormed, wellFormed}
 use Rattle.loss_reading.proofs.Laws.{sessions}
 use Rattle.stored_replies.specs.Replies.{replies, worked}
-use Rattle.stored_replies.specs.Recount.{RecountEnd, ended, refusedWith, workedAnswer, recountInto}
+use Rattle.stored_replies.specs.Recount.{refusedWith, workedAnswer, recountInto}
 use Rattle.stored_replies.proofs.Turns.{ends-not-well, ends-no-room, ends-worked}
+use Rattle.stored_replies.specs.declared.Recounted.{Recounted}
 
 -- an answer's words, from how the call ends
-pub refusal-is : {x y : RecountEnd} → x ≡ y → x .answer .refusal ≡ y .answer .refusal
-refusal-is e = ap (λ (t : RecountEnd). t .answer .refusal) e
+pub refusal-is : {x y : Wrote Recounted} → x ≡ y → x .answer .refusal ≡ y .answer .refusal
+refusal-is e = ap (λ (t : Wrote Recounted). t .answer .refusal) e
 
-pub halted-is : {x y : RecountEnd} → x ≡ y → x .answer .halted ≡ y .answer .halted
-halted-is e = ap (λ (t : RecountEnd). t .answer .halted) e
+pub halted-is : {x y : Wrote Recounted} → x ≡ y → x .answer .halted ≡ y .answer .halted
+halted-is e = ap (λ (t : Wrote Recounted). t .answer .halted) e
 
-pub taken-is : {x y : RecountEnd} → x ≡ y → x .answer .taken ≡ y .answer .taken
-taken-is e = ap (λ (t : RecountEnd). t .answer .taken) e
+pub taken-is : {x y : Wrote Recounted} → x ≡ y → x .answer .taken ≡ y .answer .taken
+taken-is e = ap (λ (t : Wrote Recounted). t .answer .taken) e
 
-pub session-is : {x y : RecountEnd} → x ≡ y → x .answer .session ≡ y .answer .session
-session-is e = ap (λ (t : RecountEnd). t .answer .session) e
+pub session-is : {x y : Wrote Recounted} → x ≡ y → x .answer .session ≡ y .answer .session
+session-is e = ap (λ (t : Wrote Recounted). t .answer .session) e
 
 -- worked through, into the buffer
-abbrev pub onInto : LossSession → List ℕ → List ℕ → RecountEnd
-onInto s octets buffer = ended (workedAnswer (worked s (replies octets))) (laid 0 (worked s (replies octets) .records) buffer)
+abbrev pub onInto : LossSession → List ℕ → List ℕ → Wrote Recounted
+onInto s octets buffer = wrote (workedAnswer (worked s (replies octets))) (laid 0 (worked s (replies octets) .records) buffer)
 
 module _ (s : LossSession) (octets buffer : List ℕ) where
-  abbrev o : RecountEnd
+  abbrev o : Wrote Recounted
   o = recountInto s octets buffer
 
   abbrev count : ℕ
@@ -43,8 +45,8 @@ module _ (s : LossSession) (octets buffer : List ℕ) where
 
   -- how it may end, with what is known then
   pub data Way : Type 0 where
-    way-2 : wellFormed s ≡ false → ended (refusedWith 2 s) buffer ≡ o → Way
-    way-3 : wellFormed s ≡ true → length buffer / 24 < count → ended (refusedWith 3 s) buffer ≡ o → Way
+    way-2 : wellFormed s ≡ false → wrote (refusedWith 2 s) buffer ≡ o → Way
+    way-3 : wellFormed s ≡ true → length buffer / 24 < count → wrote (refusedWith 3 s) buffer ≡ o → Way
     way-on : wellFormed s ≡ true → count ≤ length buffer / 24 → onInto s octets buffer ≡ o → Way
 
   pub way : Way
@@ -84,9 +86,9 @@ module _ (s : LossSession) (octets buffer : List ℕ) where
   three-from (way-3 g r e) w = sym (refusal-is e)
   three-from (way-on g r e) w = absurd (omega (arith, r, w .1))
 
-  pub refused : Way → (n : ℕ) → (n ≡ 0 → ⊥) → o .answer .refusal ≡ n → ((n ≡ 2) ⊎ (n ≡ 3)) × (o ≡ ended (refusedWith n s) buffer)
-  refused (way-2 g e) n z h = let is = refusal-is e ∙ h in (inl (sym is), sym e ∙ ap (λ (m : ℕ). ended (refusedWith m s) buffer) is)
-  refused (way-3 g r e) n z h = let is = refusal-is e ∙ h in (inr (sym is), sym e ∙ ap (λ (m : ℕ). ended (refusedWith m s) buffer) is)
+  pub refused : Way → (n : ℕ) → (n ≡ 0 → ⊥) → o .answer .refusal ≡ n → ((n ≡ 2) ⊎ (n ≡ 3)) × (o ≡ wrote (refusedWith n s) buffer)
+  refused (way-2 g e) n z h = let is = refusal-is e ∙ h in (inl (sym is), sym e ∙ ap (λ (m : ℕ). wrote (refusedWith m s) buffer) is)
+  refused (way-3 g r e) n z h = let is = refusal-is e ∙ h in (inr (sym is), sym e ∙ ap (λ (m : ℕ). wrote (refusedWith m s) buffer) is)
   refused (way-on g r e) n z h = absurd (z (sym (refusal-is e ∙ h)))
 
   pub not-both : Way → (o .answer .refusal ≡ 0) ⊎ (o .answer .halted ≡ 0)

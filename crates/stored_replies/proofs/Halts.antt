@@ -9,7 +9,7 @@ use lib.Seq.{length-take-le}
 use borrow.Author.Tests.{eq-eqb}
 use Rattle.loss_session.specs.declared.Readings.{Readings}
 use Rattle.loss_session.specs.declared.LossSession.{LossSession}
-use Rattle.loss_session.specs.Session.{WellFormed}
+use Rattle.loss_session.specs.Session.{WellFormed, mostIntervals}
 use Rattle.loss_reading.specs.declared.LossTold.{LossTold}
 use Rattle.loss_reading.specs.declared.Updated.{Updated}
 use Rattle.loss_reading.specs.Reading.{afterReading}
@@ -41,7 +41,7 @@ next s r w = by (cases s r)
     by (measures v k i e) = takes (number e) (rw e (omega (arith, k, i)))
 
 -- a session that takes no more has a reading kept and every interval used
-pub used-up : (s : LossSession) → WellFormed s → stillTakes s ≡ 0 → (s .kept ≡ 1) × (s .intervals ≡ 1000000000)
+pub used-up : (s : LossSession) → WellFormed s → stillTakes s ≡ 0 → (s .kept ≡ 1) × (s .intervals ≡ mostIntervals)
 used-up s w z = (omega (arith, z, w .flag, w .few), omega (arith, z, w .flag, w .few))
 
 -- ── n replies ──

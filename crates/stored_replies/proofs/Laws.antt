@@ -11,12 +11,14 @@ use lib.IntN.{ℤ}
 use lib.ListN.{length, drop, replicate, length-append, length-drop}
 use lib.Seq.{drop-drop, drop-append-le}
 use borrow.Author.Tests.{eqb-true, eqb-false, eq-eqb, ne-eqb}
+use Rattle.base_laws.specs.Ended.{wrote}
+use Rattle.base_laws.proofs.Ended.{buffer-is}
 use Rattle.base_laws.specs.Tests.{choose}
 use Rattle.base_laws.specs.Lists.{part, laid}
 use Rattle.base_laws.proofs.Tests.{known}
 use Rattle.base_laws.proofs.Lists.{part-drop}
 use Rattle.base_laws.proofs.Apart.{part-front, laid-whole}
-use Rattle.base_octets.specs.Numbers.{littleEndian, number}
+use Rattle.base_numbers.specs.Numbers.{littleEndian, number}
 use Rattle.loss_session.specs.declared.Readings.{Readings}
 use Rattle.loss_session.specs.declared.LossSession.{LossSession}
 use Rattle.loss_session.specs.Session.{Side, near, far, WellFormed, wellFormed}
@@ -24,7 +26,6 @@ use Rattle.loss_reading.specs.Reading.{afterReading}
 use Rattle.loss_reading.specs.Told.{numbersOf}
 use Rattle.loss_reading.proofs.Laws.{sessions}
 use Rattle.stored_record.specs.declared.RecordAnswer.{RecordAnswer}
-use Rattle.stored_record.specs.Writing.{RecordEnd, ended}
 use Rattle.stored_line.specs.declared.LossLine.{LossLine}
 use Rattle.stored_line.specs.Line.{KeepsRules, lineRecord}
 use Rattle.stored_line.specs.Calls.{writeLine}
@@ -73,10 +74,10 @@ replies-both (suc m) n octets =
 
 -- a line that keeps the rules, written over 24 octets, is its record
 pub record-is : (line : LossLine) (l : List ℕ) {r : RecordAnswer} {after : List ℕ} {n f : ℤ} → length l ≡ 24 → KeepsRules line → n ≡ line .near → f ≡ line .far
-    → ended r after ≡ writeLine (record { near = n; far = f; intervals = line .intervals }) l → after ≡ lineRecord line
+    → wrote r after ≡ writeLine (record { near = n; far = f; intervals = line .intervals }) l → after ≡ lineRecord line
 record-is line l {r} {after} {n} {f} h k en ef e =
-    let same : ended r after ≡ writeLine line l = e ∙ ap₂ (λ (x y : ℤ). writeLine (record { near = x; far = y; intervals = line .intervals }) l) en ef in
-    ap (λ (t : RecordEnd). t .buffer) (same ∙ loss-records .writes line l k (omega (arith, h)))
+    let same : wrote r after ≡ writeLine line l = e ∙ ap₂ (λ (x y : ℤ). writeLine (record { near = x; far = y; intervals = line .intervals }) l) en ef in
+    buffer-is (same ∙ loss-records .writes line l k (omega (arith, h)))
     ∙ laid-whole l (lineRecord line) 24 h (line-long line)
 
 -- ── one reply more ──

@@ -4,3 +4,4 @@ pub mod Chunks
 pub mod Halts
 pub mod Ends
 pub mod Recounts
+pub mod One

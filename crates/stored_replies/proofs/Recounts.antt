@@ -7,13 +7,14 @@ use mathlib.Core.Logic.{_⊎_, inl, inr, ⊎-elim}
 use native.Mathlib.Omega.{arith}
 use lib.ListN.{length, take}
 use lib.Seq.{length-take-le}
+use Rattle.base_laws.specs.Ended.{wrote}
 use Rattle.base_laws.specs.Lists.{laid}
 use Rattle.loss_session.specs.declared.LossSession.{LossSession}
-use Rattle.loss_session.specs.Session.{WellFormed, wellFormed}
+use Rattle.loss_session.specs.Session.{WellFormed, wellFormed, mostIntervals}
 use Rattle.loss_reading.proofs.Laws.{sessions}
 use Rattle.stored_replies.specs.declared.Recounted.{Recounted}
 use Rattle.stored_replies.specs.Replies.{replies, Worked, worked}
-use Rattle.stored_replies.specs.Recount.{ended, workedAnswer, recountInto, stillTakes}
+use Rattle.stored_replies.specs.Recount.{workedAnswer, recountInto, stillTakes}
 use Rattle.stored_replies.specs.Recounts.{answerTo, butHalted, Recounts}
 use Rattle.stored_replies.proofs.Turns.{ends-worked}
 use Rattle.stored_replies.proofs.Chunks.{sized, replies-long, chunks}
@@ -80,7 +81,7 @@ module _ (s : LossSession) (octets buffer : List ℕ) where
   stays (way-on g r e) w = rw (session-is e) at (through g .well)
 
   none-left : Ways → a .halted ≡ 5
-      → (a .taken ≡ stillTakes s) × (a .session .kept ≡ 1) × (a .session .intervals ≡ 1000000000)
+      → (a .taken ≡ stillTakes s) × (a .session .kept ≡ 1) × (a .session .intervals ≡ mostIntervals)
   none-left w h =
       let k = halt w h in
       let u = used-up (a .session) (stays w (sessions .well s .0 (k .0))) (k .5) in
@@ -97,7 +98,7 @@ before s octets buffer h =
     let room : length first / 16 ≤ length buffer / 24 = omega (arith, long, k .1, k .3) in
     let w = worked s (replies first) in
     sym (k .2)
-    ∙ ap (λ (v : Worked). ended (workedAnswer v) (laid 0 (v .records) buffer)) (fore s octets (sessions .well s .0 (k .0)) (k .3))
+    ∙ ap (λ (v : Worked). wrote (workedAnswer v) (laid 0 (v .records) buffer)) (fore s octets (sessions .well s .0 (k .0)) (k .3))
     ∙ ap butHalted (ends-worked s first buffer w (k .0) room refl refl)
     ∙ ap (λ (n : ℕ). butHalted (recountInto s (take (n * 16) octets) buffer)) (sym (k .4))
 

@@ -7,6 +7,7 @@ use native.Mathlib.Omega.{arith}
 use lib.ListN.{length, drop}
 use lib.Seq.{drop-drop}
 use borrow.Author.Tests.{lt-ltb, le-ltb}
+use Rattle.base_laws.specs.Ended.{wrote}
 use Rattle.base_laws.specs.Tests.{choose}
 use Rattle.base_laws.specs.Lists.{laid}
 use Rattle.base_laws.proofs.Lists.{laid-none, length-laid}
@@ -21,23 +22,23 @@ use Rattle.loss_lent.specs.Lent.{readingOf}
 use Rattle.stored_line.specs.Line.{KeepsRules, lineRecord}
 use Rattle.stored_line.proofs.Laws.{line-long}
 use Rattle.stored_replies.specs.Replies.{readingsIn, repliesIn, replies, lineOf, Worked, stopped, behind, worked}
-use Rattle.stored_replies.specs.Recount.{ended, answered, refusedWith, workedAnswer, recountInto}
+use Rattle.stored_replies.specs.Recount.{answered, refusedWith, workedAnswer, recountInto}
 use Rattle.stored_replies.proofs.Laws.{replies-next, taken-kept, worked-taken, worked-refused, worked-none, behind-both}
 
 -- ── how it ends ──
 
 module _ (s : LossSession) (octets buffer : List ℕ) where
-  pub ends-not-well : wellFormed s ≡ false → ended (refusedWith 2 s) buffer ≡ recountInto s octets buffer
+  pub ends-not-well : wellFormed s ≡ false → wrote (refusedWith 2 s) buffer ≡ recountInto s octets buffer
   unfolding recountInto choose
   ends-not-well g = rw g
 
   pub ends-no-room : wellFormed s ≡ true → length buffer / 24 < length octets / 16
-      → ended (refusedWith 3 s) buffer ≡ recountInto s octets buffer
+      → wrote (refusedWith 3 s) buffer ≡ recountInto s octets buffer
   unfolding recountInto choose
   ends-no-room g h = rw (g, lt-ltb (length buffer / 24) (length octets / 16) h)
 
   pub ends-worked : (w : Worked) {after : List ℕ} → wellFormed s ≡ true → length octets / 16 ≤ length buffer / 24 → worked s (replies octets) ≡ w
-      → after ≡ laid 0 (w .records) buffer → ended (workedAnswer w) after ≡ recountInto s octets buffer
+      → after ≡ laid 0 (w .records) buffer → wrote (workedAnswer w) after ≡ recountInto s octets buffer
   unfolding recountInto choose
   ends-worked w g h e f = rw (g, le-ltb (length buffer / 24) (length octets / 16) h, e, f)
 
@@ -79,7 +80,7 @@ module _ {start s : LossSession} {from before into : List ℕ} {i : ℕ} (t : So
   left = drop (i * 16) from
 
   -- nothing is left
-  pub at-end : length from / 16 ≤ i → ended (answered 0 0 (length from / 16) s) into ≡ recountInto start from before
+  pub at-end : length from / 16 ≤ i → wrote (answered 0 0 (length from / 16) s) into ≡ recountInto start from before
   at-end k =
       let none : length from / 16 - i ≡ 0 = omega (arith, k) in
       let all : i + 0 ≡ length from / 16 = omega (arith, k, t .within) in
@@ -104,7 +105,7 @@ module _ {start s : LossSession} {from before into : List ℕ} {i : ℕ} (t : So
     session-is : a .session ≡ afterReading s r .session
     session-is = ap (λ (x : Answered). x .session) f
 
-    pub turn-halts : (a .told .refusal ≡ 0 → ⊥) → ended (answered 0 (a .told .refusal) i s) into ≡ recountInto start from before
+    pub turn-halts : (a .told .refusal ≡ 0 → ⊥) → wrote (answered 0 (a .told .refusal) i s) into ≡ recountInto start from before
     turn-halts n =
         let same : i + 0 ≡ i = omega arith in
         let w : worked start (replies from) ≡ record { records = t .records; halted = a .told .refusal; taken = i; session = s } =

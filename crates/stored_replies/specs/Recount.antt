@@ -7,18 +7,11 @@ use lib.Dec.{ltb, eqb}
 use lib.ListN.{length}
 use Rattle.base_laws.specs.Tests.{choose}
 use Rattle.base_laws.specs.Lists.{laid}
+use Rattle.base_laws.specs.Ended.{Wrote, wrote}
 use Rattle.loss_session.specs.declared.LossSession.{LossSession}
-use Rattle.loss_session.specs.Session.{wellFormed}
+use Rattle.loss_session.specs.Session.{wellFormed, mostReadings}
 use Rattle.stored_replies.specs.declared.Recounted.{Recounted}
 use Rattle.stored_replies.specs.Replies.{replies, Worked, behind, worked}
-
--- what is answered, and what the buffer then holds
-pub record RecountEnd : Type 0 where
-  pub answer : Recounted
-  pub buffer : List ℕ
-
-abbrev pub ended : Recounted → List ℕ → RecountEnd
-ended answer buffer = record { answer = answer; buffer = buffer }
 
 -- the numbers of an answer
 abbrev pub answered : ℕ → ℕ → ℕ → LossSession → Recounted
@@ -34,13 +27,13 @@ workedAnswer w = answered 0 (w .halted) (w .taken) (w .session)
 
 -- in the paper's order: a session that is not well formed; too little room for a record of each reply; else the records, laid over the buffer's
 -- first octets
-unfoldable pub recountInto : LossSession → List ℕ → List ℕ → RecountEnd
+unfoldable pub recountInto : LossSession → List ℕ → List ℕ → Wrote Recounted
 recountInto s octets buffer =
     choose (
-    (not (wellFormed s), ended (refusedWith 2 s) buffer)
-    ∷ (ltb (length buffer / 24) (length octets / 16), ended (refusedWith 3 s) buffer)
+    (not (wellFormed s), wrote (refusedWith 2 s) buffer)
+    ∷ (ltb (length buffer / 24) (length octets / 16), wrote (refusedWith 3 s) buffer)
     ∷ [])
-    (ended (workedAnswer (worked s (replies octets))) (laid 0 (worked s (replies octets) .records) buffer))
+    (wrote (workedAnswer (worked s (replies octets))) (laid 0 (worked s (replies octets) .records) buffer))
 
 -- a first part worked through, and what the rest gives from the session that it left, if it did not halt
 abbrev pub andThen : Worked → (LossSession → Worked) → Worked
@@ -48,4 +41,4 @@ andThen w rest = cond (eqb (w .halted) 0) (behind (w .records) (w .taken) (rest 
 
 -- how many replies a session still takes: one that is only kept, where none is, and one for each interval up to 1,000,000,000
 abbrev pub stillTakes : LossSession → ℕ
-stillTakes s = 1000000001 - (s .kept + s .intervals)
+stillTakes s = mostReadings - (s .kept + s .intervals)

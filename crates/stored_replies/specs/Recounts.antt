@@ -4,19 +4,20 @@ use mathlib.Core.Path.{_≡_}
 use mathlib.Core.List.{List, _++_}
 use mathlib.Core.Logic.{_↔_, _⊎_}
 use lib.ListN.{length, take}
+use Rattle.base_laws.specs.Ended.{Wrote, wrote}
 use Rattle.loss_session.specs.declared.LossSession.{LossSession}
-use Rattle.loss_session.specs.Session.{WellFormed}
+use Rattle.loss_session.specs.Session.{WellFormed, mostIntervals}
 use Rattle.stored_replies.specs.declared.Recounted.{Recounted}
 use Rattle.stored_replies.specs.Replies.{replies, worked}
-use Rattle.stored_replies.specs.Recount.{RecountEnd, ended, answered, refusedWith, recountInto, andThen, stillTakes}
+use Rattle.stored_replies.specs.Recount.{answered, refusedWith, recountInto, andThen, stillTakes}
 
 -- what a call is answered
 abbrev pub answerTo : LossSession → List ℕ → List ℕ → Recounted
 answerTo s octets buffer = recountInto s octets buffer .answer
 
 -- the same, but halted with 5
-abbrev pub butHalted : RecountEnd → RecountEnd
-butHalted o = ended (answered (o .answer .refusal) 5 (o .answer .taken) (o .answer .session)) (o .buffer)
+abbrev pub butHalted : Wrote Recounted → Wrote Recounted
+butHalted o = wrote (answered (o .answer .refusal) 5 (o .answer .taken) (o .answer .session)) (o .buffer)
 
 pub record Recounts : Type 0 where
   -- a record of 24 octets for each reply taken, and never more replies than there are
@@ -31,7 +32,7 @@ pub record Recounts : Type 0 where
       → (answerTo s octets buffer .refusal ≡ 3) ↔ (WellFormed s × (length buffer / 24 < length octets / 16))
   -- and with no other number; a refused call leaves session and buffer as they were, takes nothing, and is not halted
   pub refused : (s : LossSession) (octets buffer : List ℕ) (n : ℕ) → (n ≡ 0 → ⊥) → answerTo s octets buffer .refusal ≡ n
-      → ((n ≡ 2) ⊎ (n ≡ 3)) × (recountInto s octets buffer ≡ ended (refusedWith n s) buffer)
+      → ((n ≡ 2) ⊎ (n ≡ 3)) × (recountInto s octets buffer ≡ wrote (refusedWith n s) buffer)
   -- halted with 5 exactly where nothing is refused and a reply is not taken, which is where there are more than the session still takes
   pub halts-5 : (s : LossSession) (octets buffer : List ℕ) → (answerTo s octets buffer .halted ≡ 5)
       ↔ ((answerTo s octets buffer .refusal ≡ 0) × (answerTo s octets buffer .taken < length octets / 16))
@@ -44,7 +45,7 @@ pub record Recounts : Type 0 where
   -- a call that halts took all that the session still takes, and leaves it with a reading kept and no interval left
   pub none-left : (s : LossSession) (octets buffer : List ℕ) → answerTo s octets buffer .halted ≡ 5
       → (answerTo s octets buffer .taken ≡ stillTakes s)
-      × (answerTo s octets buffer .session .kept ≡ 1) × (answerTo s octets buffer .session .intervals ≡ 1000000000)
+      × (answerTo s octets buffer .session .kept ≡ 1) × (answerTo s octets buffer .session .intervals ≡ mostIntervals)
   -- and its session and its records are those that a call on the replies before the halt leaves
   pub before : (s : LossSession) (octets buffer : List ℕ) → answerTo s octets buffer .halted ≡ 5
       → recountInto s octets buffer ≡ butHalted (recountInto s (take (answerTo s octets buffer .taken * 16) octets) buffer)

@@ -1,6 +1,23 @@
-// What working through raw loss replies gives, and that chunks of them give what the whole gives: definitions and laws.
-// No code but how far the work went.
+// Raw loss replies worked again in memory, a stored loss line after each; chunks of them give what the whole gives.
+// The four counts of each reply go to a session. What a card kept of a month is so made into its sheet.
+ghost use mathlib.Core.Path.{_≡_};
+ghost use Prim.Native.Nat.{_+_, _≤_};
+ghost use lib.ListN.{length, drop};
+ghost use Rattle.base_laws.specs.Ended.{wrote};
+ghost use Rattle.base_laws.specs.Lists.{laid};
+ghost use Rattle.loss_lent.specs.Lent.{readingOf};
+ghost use Rattle.stored_line.specs.Line.{KeepsRules, lineRecord};
+ghost use Rattle.stored_replies.specs.Replies.{readingsIn, lineOf};
+ghost use Rattle.stored_replies.specs.Recount.{answered, recountInto};
+use base_numbers::read_little;
+use base_octets::copy_octets;
+use loss_lent::Answered;
+use loss_lent::answer;
 use loss_session::LossSession;
+use loss_session::well_formed;
+use stored_line::LINE;
+use stored_line::LossLine;
+use stored_line_calls::write_line;
 
 // How far the replies were worked through. A call that is refused touched nothing; one that halted took what it tells, and that stands. No
 // call is both.
@@ -12,4 +29,76 @@ pub struct Recounted {
     // The replies taken, and so the records written.
     pub taken: usize,
     pub session: LossSession,
+}
+
+// The octets of a reply: four counts of 32 bits.
+pub const REPLY: usize = 16;
+
+// The session's answer to the reply at a place: TxFCf, RxFCf, TxFCb and our own received count.
+fn answer_at(from: &[u8], at: usize, s: LossSession) -> Answered
+    requires { ⌜ at + 16 ≤ length (now from) ⌝ }
+    ensures { λ r. ⌜ r ≡ readingOf s (readingsIn (drop at (now (from .entry)))) ⌝ }
+{
+    let txf = read_little(from, at, 4);
+    let rxf = read_little(from, at + 4, 4);
+    let txb = read_little(from, at + 8, 4);
+    let ours = read_little(from, at + 12, 4);
+    answer(s, txf, rxf, txb, ours)
+}
+
+// Writes the line of a session as a record at a place.
+fn put_record(into: &mut [u8], at: usize, s: LossSession)
+    requires { ⌜ (at + 24 ≤ length (now into)) × KeepsRules (lineOf s) ⌝ }
+    ensures { λ _. ⌜ now (into .exit) ≡ laid at (lineRecord (lineOf s)) (now (into .entry)) ⌝ }
+{
+    let mut stored = [0u8; LINE];
+    write_line(
+        &mut stored,
+        LossLine {
+            near: s.near,
+            far: s.far,
+            intervals: s.intervals,
+        },
+    );
+    copy_octets(into, at, &stored);
+}
+
+// Where the work stands.
+fn worked_to(refusal: u32, halted: u32, taken: usize, session: LossSession) -> Recounted
+    ensures { λ r. ⌜ r ≡ answered refusal halted taken session ⌝ }
+{
+    Recounted {
+        refusal,
+        halted,
+        taken,
+        session,
+    }
+}
+
+// Works through the whole replies of a chunk, from a session on, and writes their records into the front of the buffer. Octets behind the last whole
+// reply are not looked at. A refusal touches nothing. Where the session has no interval left for a reply the work halts there, and what
+// went before stands.
+pub fn recount(into: &mut [u8], from: &[u8], session: LossSession) -> Recounted
+    ensures { λ r. ⌜ wrote r (now (into .exit)) ≡ recountInto session (now (from .entry)) (now (into .entry)) ⌝ }
+{
+    let mut s = session;
+    if !well_formed(s) {
+        return worked_to(2, 0, 0, s);
+    }
+    let count = from.len() / REPLY;
+    if into.len() / LINE < count {
+        return worked_to(3, 0, 0, s);
+    }
+    let mut i: usize = 0;
+    while i < count {
+        let next = answer_at(from, i * REPLY, s);
+        if next.told.refusal != 0 {
+            return worked_to(0, next.told.refusal, i, s);
+        }
+        let after = next.session;
+        put_record(into, i * LINE, after);
+        s = after;
+        i += 1;
+    }
+    worked_to(0, 0, count, s)
 }

@@ -2,7 +2,7 @@
 -- reads off the source's own clauses. Assumes nothing.
 use mathlib.Core.Path.{_≡_, sym, ap, _∙_}
 use denote.Ref.{now}
-use Rattle.stored_record.specs.Writing.{RecordEnd}
+use Rattle.base_laws.proofs.Ended.{answer-is, buffer-is}
 use Rattle.stored_settings.proofs.read_settings.Reads as read-settings
 use Rattle.stored_settings.proofs.write_settings.Reads as write-settings
 
@@ -10,4 +10,4 @@ pub read-settings-one : (κs : _) (a : _) (r r′ : _) (s s′ : _) → read-set
 read-settings-one κs a r r′ s s′ p q = p ∙ sym q
 
 pub write-settings-one : (κs : _) (a : _) (r r′ : _) (s s′ : _) → write-settings.Post κs a r s → write-settings.Post κs a r′ s′ → (r ≡ r′) × (now (s .0) ≡ now (s′ .0))
-write-settings-one κs a r r′ s s′ p q = (ap (λ (t : RecordEnd). t .answer) (p .0 .0 ∙ sym (q .0 .0)), ap (λ (t : RecordEnd). t .buffer) (p .0 .0 ∙ sym (q .0 .0)))
+write-settings-one κs a r r′ s s′ p q = (answer-is (p .0 .0 ∙ sym (q .0 .0)), buffer-is (p .0 .0 ∙ sym (q .0 .0)))

@@ -8,20 +8,21 @@ use native.Mathlib.Omega.{arith}
 use lib.Dec.{ltb}
 use lib.ListN.{length, drop, replicate}
 use borrow.Author.Tests.{not-true, not-false, ltb-true, ltb-false}
+use Rattle.base_laws.specs.Ended.{Wrote, wrote}
 use Rattle.base_laws.specs.Tests.{choose}
 use Rattle.base_laws.specs.Lists.{part, laid}
 use Rattle.base_laws.proofs.Tests.{known}
 use Rattle.base_laws.proofs.Lists.{length-part}
 use Rattle.base_laws.proofs.Apart.{part-front, laid-whole}
-use Rattle.base_octets.specs.Numbers.{Octets}
-use Rattle.base_octets.proofs.Laws.{part-octets}
+use Rattle.base_octets.specs.Octets.{Octets}
+use Rattle.base_octets.proofs.Octets.{part-octets}
 use Rattle.state_settings.specs.Settings.{Settings, slots, Shaped}
 use Rattle.state_settings.specs.Valid.{Valid, valid}
 use Rattle.state_settings.proofs.Rules.{valid-is}
 use Rattle.stored_record.specs.declared.RecordAnswer.the-variants as stored
 use Rattle.stored_record.specs.Record.{recordOf, isRecord, IsRecord, NoRecord}
 use Rattle.stored_record.specs.declared.RecordTold.{RecordTold}
-use Rattle.stored_record.specs.Writing.{RecordEnd, ended, writeRecord, told, numbersOf}
+use Rattle.stored_record.specs.Writing.{writeRecord, told, numbersOf}
 use Rattle.stored_record.proofs.Laws.{records}
 use Rattle.stored_record.proofs.Writing.{writing}
 use Rattle.stored_settings_body.specs.declared.SettingsRead.{SettingsRead}
@@ -30,6 +31,7 @@ use Rattle.stored_settings.specs.SettingsRecord.{bodySize, recordSize, s
 use Rattle.stored_settings_body.proofs.Bodies.{bodies}
 use Rattle.stored_settings_body.specs.Lying.{given}
 use Rattle.stored_settings_body.proofs.Lying.{lying-back}
+use Rattle.stored_record.specs.declared.RecordAnswer.{RecordAnswer}
 
 -- the test and the rules
 keeps : (s : Settings) → valid s ≡ true → Valid s
@@ -201,7 +203,7 @@ written s rest v w =
 -- ── writing ──
 
 -- from what the code knows: the record of this body, with this test
-pub ends-write : (s : Settings) (buffer : List ℕ) {good : Bool} {body : List ℕ} {o : RecordEnd} {t : RecordTold} → good ≡ valid s → body ≡ settingsBody s
+pub ends-write : (s : Settings) (buffer : List ℕ) {good : Bool} {body : List ℕ} {o : Wrote RecordAnswer} {t : RecordTold} → good ≡ valid s → body ≡ settingsBody s
     → (o ≡ writeRecord good 1 body buffer) × (t ≡ numbersOf good body buffer)
     → (o ≡ writeSettings s buffer) × (t ≡ numbersOf (valid s) (settingsBody s) buffer)
 unfolding writeSettings
@@ -234,12 +236,12 @@ module _ (s : Settings) (buffer : List ℕ) where
     unfolding writeSettings
     three-from h = writing .refuses-3 (valid s) 1 (settingsBody s) buffer .1 (passes s (h .0), omega (arith, size), omega (arith, h .1, size))
 
-    writes : Valid s → recordSize ≤ length buffer → writeSettings s buffer ≡ ended (stored.Octets recordSize) (laid 0 (settingsRecord s) buffer)
+    writes : Valid s → recordSize ≤ length buffer → writeSettings s buffer ≡ wrote (stored.Octets recordSize) (laid 0 (settingsRecord s) buffer)
     unfolding writeSettings
     writes v h =
         ap (λ (keep : Bool). writeRecord keep 1 (settingsBody s) buffer) (passes s v)
         ∙ writing .writes 1 (settingsBody s) buffer (omega (arith, size)) (omega (arith, size))
-        ∙ ap (λ (n : ℕ). ended (stored.Octets (4 + n)) (laid 0 (settingsRecord s) buffer)) size
+        ∙ ap (λ (n : ℕ). wrote (stored.Octets (4 + n)) (laid 0 (settingsRecord s) buffer)) size
 
 -- a record laid over a buffer stands in front of what is left of it
 back : (s : Settings) (buffer : List ℕ) → Valid s → Shaped slots s → recordSize ≤ length buffer
@@ -247,7 +249,7 @@ back : (s : Settings) (buffer : List ℕ) → Valid s → Shaped slots s → rec
 unfolding laid
 back s buffer v w h =
     let rest = drop (0 + length (settingsRecord s)) buffer in
-    ap (λ (x : RecordEnd). settingsRead (readSettings (x .buffer))) (writes s buffer w v h) ∙ written s rest v w .1
+    ap (λ (x : Wrote RecordAnswer). settingsRead (readSettings (x .buffer))) (writes s buffer w v h) ∙ written s rest v w .1
 
 pub settings-records : SettingsRecords
 settings-records = record {

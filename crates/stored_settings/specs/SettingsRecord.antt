@@ -7,18 +7,20 @@ use mathlib.Core.List.{List, [], _∷_, _++_}
 use mathlib.Core.Bool.{not}
 use mathlib.Core.Logic.{_↔_, _⊎_}
 use lib.ListN.{length, replicate}
+use Rattle.base_laws.specs.Ended.{Wrote, wrote}
 use Rattle.base_laws.specs.Tests.{choose}
 use Rattle.base_laws.specs.Lists.{part, laid}
-use Rattle.base_octets.specs.Numbers.{Octets}
-use Rattle.state_settings.specs.Settings.{Settings, slots, settingsOf, Shaped}
+use Rattle.base_octets.specs.Octets.{Octets}
+use Rattle.state_settings.specs.Settings.{Settings, slots, settingsOf, Shaped, nameOctets, setWords}
 use Rattle.state_settings.specs.Valid.{Valid, valid}
 use Rattle.stored_record.specs.declared.RecordAnswer.the-variants as stored
 use Rattle.stored_record.specs.declared.RecordTold.{RecordTold}
 use Rattle.stored_record.specs.Record.{recordOf, isRecord, IsRecord, NoRecord}
-use Rattle.stored_record.specs.Writing.{RecordEnd, ended, writeRecord, told, numbersOf}
+use Rattle.stored_record.specs.Writing.{writeRecord, told, numbersOf}
 use Rattle.stored_settings_body.specs.declared.SettingsRead.{SettingsRead}
 use Rattle.stored_settings_body.specs.Body.{settingsBody, bodyLength, settingsIn, FieldsHold}
 use Rattle.stored_settings_body.specs.Lying.{given}
+use Rattle.stored_record.specs.declared.RecordAnswer.{RecordAnswer}
 
 -- the octets of a body with as many slots as a box has, and of the whole record
 abbrev pub bodySize : ℕ
@@ -39,7 +41,7 @@ settingsAt octets = settingsIn slots (part 4 bodySize octets)
 
 -- refusal 7, and every value 0
 abbrev pub refusedRead : SettingsRead
-refusedRead = record { refusal = 7; set = replicate 4 0; names = replicate 60 0; ids = replicate slots 0 }
+refusedRead = record { refusal = 7; set = replicate setWords 0; names = replicate nameOctets 0; ids = replicate slots 0 }
 
 -- the settings in the arrays of a read
 abbrev pub settingsRead : SettingsRead → Settings
@@ -57,7 +59,7 @@ readSettings octets =
 -- ── writing ──
 
 -- the record of the settings, if they keep the rules
-unfoldable pub writeSettings : Settings → List ℕ → RecordEnd
+unfoldable pub writeSettings : Settings → List ℕ → Wrote RecordAnswer
 writeSettings s buffer = writeRecord (valid s) 1 (settingsBody s) buffer
 
 -- and the numbers that it is told in
@@ -95,4 +97,4 @@ pub record SettingsRecords : Type 0 where
   pub refused : (s : Settings) (buffer : List ℕ) → (told (writeSettings s buffer .answer) .refusal ≡ 0 → ⊥) → writeSettings s buffer .buffer ≡ buffer
   -- any other settings are written, and the octets behind their record stay
   pub writes : (s : Settings) (buffer : List ℕ) → Valid s → Shaped slots s → recordSize ≤ length buffer
-      → writeSettings s buffer ≡ ended (stored.Octets recordSize) (laid 0 (settingsRecord s) buffer)
+      → writeSettings s buffer ≡ wrote (stored.Octets recordSize) (laid 0 (settingsRecord s) buffer)

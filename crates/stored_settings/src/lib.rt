@@ -2,16 +2,22 @@
 // The answer of a read is a struct with the refusal's number in it, and no enum: an enum that holds an array is not covered by the
 // toolchain.
 ghost use mathlib.Core.Path.{_≡_};
-ghost use Rattle.state_settings.specs.Settings.{slots, settingsOf, Shaped};
-ghost use Rattle.stored_record.specs.Writing.{ended, told};
+ghost use Rattle.base_laws.specs.Ended.{wrote};
+ghost use Rattle.state_settings.specs.Settings.{slots, lentSettings, Shaped};
+ghost use Rattle.stored_record.specs.Writing.{told};
 ghost use Rattle.stored_settings.specs.SettingsRecord.{refusedRead, readSettings, writeSettings, writtenNumbers};
-use base_octets::parts::copy_octets;
+use base_octets::copy_octets;
+use state_settings::NAMES;
+use state_settings::Names;
 use state_settings::PEERS;
+use state_settings::SET;
+use state_settings::Set;
+use state_settings::Slots;
 use state_settings::is_valid;
-use stored_head::HEAD;
-use stored_head::is_record;
-use stored_head::write_record;
+use stored_record::HEAD;
 use stored_record::RecordAnswer;
+use stored_record::is_record;
+use stored_record::write_record;
 use stored_settings_body::BODY;
 use stored_settings_body::SettingsRead;
 use stored_settings_body::settings_of;
@@ -26,8 +32,8 @@ fn none() -> SettingsRead
 {
     SettingsRead {
         refusal: 7,
-        set: [0; 4],
-        names: [0; 60],
+        set: [0; SET],
+        names: [0; NAMES],
         ids: [0; PEERS],
     }
 }
@@ -53,14 +59,10 @@ pub fn read_settings(from: &[u8]) -> SettingsRead
 }
 
 // Writes the record of settings into the front of the buffer: refusal 4 where they break a rule, then 3 where there is no room.
-pub fn write_settings(
-    into: &mut [u8],
-    set: &[u32; 4],
-    names: &[u8; 60],
-    ids: &[u32; PEERS],
-) -> RecordAnswer
-    ensures { λ r. ⌜ (ended r (now (into .exit)) ≡ writeSettings (settingsOf (now (set .entry)) (now (names .entry)) (now (ids .entry))) (now (into .entry))) × (told r ≡ writtenNumbers (settingsOf (now (set .entry)) (now (names .entry)) (now (ids .entry))) (now (into .entry))) ⌝ }
-    ensures { λ _. ⌜ Shaped slots (settingsOf (now (set .entry)) (now (names .entry)) (now (ids .entry))) ⌝ }
+pub fn write_settings(into: &mut [u8], set: &Set, names: &Names, ids: &Slots) -> RecordAnswer
+    ensures { λ r. ⌜ (wrote r (now (into .exit)) ≡ writeSettings (lentSettings set names ids) (now (into .entry)))
+        × (told r ≡ writtenNumbers (lentSettings set names ids) (now (into .entry))) ⌝ }
+    ensures { λ _. ⌜ Shaped slots (lentSettings set names ids) ⌝ }
 {
     // a view of an array tells its length, and costs nothing
     let _names: &[u8] = names;

@@ -7,8 +7,9 @@ use lib.ListN.{length, drop, length-append, length-drop}
 use lib.Seq.{drop-at, getD-drop}
 use Rattle.base_laws.specs.Lists.{part}
 use Rattle.base_laws.proofs.Lists.{part-append, part-here, part-all, drop-part, length-part}
-use Rattle.base_octets.specs.Numbers.{littleEndian, Octets}
-use Rattle.base_octets.proofs.Laws.{length-octets, number-here, read-again}
+use Rattle.base_octets.specs.Octets.{Octets}
+use Rattle.base_numbers.specs.Numbers.{littleEndian}
+use Rattle.base_numbers.proofs.Laws.{length-octets, number-here, read-again}
 use Rattle.state_settings.specs.Settings.{Settings, Shaped}
 use Rattle.stored_settings_body.specs.Body.{field, fieldAt, fieldsBefore, idsOctets, idsIn, settingsBody, bodyLength, settingsIn, FieldsHold, Bodies}
 use Rattle.stored_settings_body.proofs.Ids.{ids-long, read-long, ids-at, ids-back, ids-again}

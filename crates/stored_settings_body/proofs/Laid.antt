@@ -8,9 +8,9 @@ use Rattle.base_laws.specs.Lists.{part, laid}
 use Rattle.base_laws.proofs.Lists.{length-part}
 use Rattle.base_laws.proofs.Apart.{laid-whole}
 use Rattle.base_laws.proofs.Pieces.{first, more}
-use Rattle.base_octets.specs.Numbers.{littleEndian}
-use Rattle.base_octets.proofs.Laws.{length-octets}
-use Rattle.state_settings.specs.Settings.{Settings, Shaped}
+use Rattle.base_numbers.specs.Numbers.{littleEndian}
+use Rattle.base_numbers.proofs.Laws.{length-octets}
+use Rattle.state_settings.specs.Settings.{Settings, Shaped, nameOctets, addressOctets, megOctets, ownFrom, losspeerFrom, megFrom}
 use Rattle.stored_settings_body.specs.Body.{field, fieldsBefore, idsOctets, settingsBody, bodyLength, settingsIn}
 use Rattle.stored_settings_body.specs.Lying.{namesOf}
 use Rattle.stored_settings_body.proofs.Ids.{ids-long}
@@ -21,16 +21,16 @@ unfolding fieldsBefore
 fields-long n s w = simp (length-append, length-octets) (omega arith)
 
 -- the names of a body: own address, loss peer, MEG ID
-pub names-laid : (n : ℕ) (body l : List ℕ) {x y r : List ℕ} → bodyLength n ≤ length body → length l ≡ 60
-    → x ≡ laid 0 (part 3 6 body) l
-    → y ≡ laid 6 (part 58 6 body) x
-    → r ≡ laid 12 (part 10 48 body) y
+pub names-laid : (n : ℕ) (body l : List ℕ) {x y r : List ℕ} → bodyLength n ≤ length body → length l ≡ nameOctets
+    → x ≡ laid ownFrom (part 3 addressOctets body) l
+    → y ≡ laid losspeerFrom (part 58 addressOctets body) x
+    → r ≡ laid megFrom (part 10 megOctets body) y
     → r ≡ namesOf (settingsIn n body)
 names-laid n body l h k e1 e2 e3 =
-    let p1 = first 0 6 (part 3 6 body) l e1 (length-part 3 6 body (omega arith)) in
-    let p2 = more 6 (part 58 6 body) p1 e2 (length-part 58 6 body (omega arith)) (omega arith) in
-    let p3 = more 48 (part 10 48 body) p2 e3 (length-part 10 48 body (omega arith)) (omega arith) in
-    p3 .is ∙ laid-whole l (namesOf (settingsIn n body)) 60 k (p3 .long)
+    let p1 = first ownFrom addressOctets (part 3 addressOctets body) l e1 (length-part 3 addressOctets body (omega arith)) in
+    let p2 = more addressOctets (part 58 addressOctets body) p1 e2 (length-part 58 addressOctets body (omega arith)) (omega arith) in
+    let p3 = more megOctets (part 10 megOctets body) p2 e3 (length-part 10 megOctets body (omega arith)) (omega arith) in
+    p3 .is ∙ laid-whole l (namesOf (settingsIn n body)) nameOctets k (p3 .long)
 
 -- the fields in front of the IDs, in the paper's order
 pub fields-laid : (n : ℕ) (s : Settings) (l : List ℕ) {x y z u v w r : List ℕ} → Shaped n s → 65 ≤ length l

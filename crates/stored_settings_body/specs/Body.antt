@@ -5,7 +5,8 @@ use mathlib.Core.Path.{_≡_}
 use mathlib.Core.List.{List, [], _∷_, _++_}
 use lib.ListN.{length, getD, drop}
 use Rattle.base_laws.specs.Lists.{part}
-use Rattle.base_octets.specs.Numbers.{littleEndian, number, inOctets, Octets}
+use Rattle.base_octets.specs.Octets.{Octets}
+use Rattle.base_numbers.specs.Numbers.{littleEndian, number, inOctets}
 use Rattle.state_settings.specs.Settings.{Settings, Shaped}
 
 -- a field of n octets that holds a number, and the number of such a field

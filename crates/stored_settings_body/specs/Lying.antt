@@ -3,7 +3,7 @@ use Prim.Native.Nat.{ℕ}
 use mathlib.Core.Path.{_≡_}
 use mathlib.Core.List.{List, [], _∷_, _++_}
 use lib.ListN.{length}
-use Rattle.state_settings.specs.Settings.{Settings, settingsOf, Shaped}
+use Rattle.state_settings.specs.Settings.{Settings, settingsOf, Shaped, setWords, nameOctets}
 use Rattle.stored_settings_body.specs.declared.SettingsRead.{SettingsRead}
 
 -- level, MEP ID, period code, peer count
@@ -22,8 +22,8 @@ given s = record { refusal = 0; set = setOf s; names = namesOf s; ids = s .ids }
 pub record Lying : Type 0 where
   -- settings of these lengths are read off as what they are
   pub back : (n : ℕ) (s : Settings) → Shaped n s → settingsOf (setOf s) (namesOf s) (s .ids) ≡ s
-  -- and arrays of four words and 60 octets hold nothing else: they lie in one way
-  pub again : (set names ids : List ℕ) → length set ≡ 4 → length names ≡ 60
+  -- and arrays of their lengths hold nothing else: they lie in one way
+  pub again : (set names ids : List ℕ) → length set ≡ setWords → length names ≡ nameOctets
       → (setOf (settingsOf set names ids) ≡ set) × (namesOf (settingsOf set names ids) ≡ names)
-  -- 60 octets of names give them their lengths
-  pub shaped : (set names ids : List ℕ) → length names ≡ 60 → Shaped (length ids) (settingsOf set names ids)
+  -- names of their length give them theirs
+  pub shaped : (set names ids : List ℕ) → length names ≡ nameOctets → Shaped (length ids) (settingsOf set names ids)

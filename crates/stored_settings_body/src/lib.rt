@@ -6,9 +6,16 @@ ghost use lib.ListN.{length};
 ghost use Rattle.state_settings.specs.Settings.{slots};
 ghost use Rattle.stored_settings_body.specs.Body.{idsIn, bodyLength, settingsIn};
 ghost use Rattle.stored_settings_body.specs.Lying.{namesOf, given};
-use base_octets::numbers::read_little;
-use base_octets::parts::copy_octets;
+use base_numbers::read_little;
+use base_octets::copy_octets;
+use state_settings::LOSSPEER;
+use state_settings::MEG;
+use state_settings::NAMES;
+use state_settings::Names;
+use state_settings::OWN;
 use state_settings::PEERS;
+use state_settings::Set;
+use state_settings::Slots;
 
 // Where the IDs begin in the body.
 pub const IDS: usize = 65;
@@ -20,9 +27,9 @@ pub const BODY: usize = IDS + 2 * PEERS;
 #[repr(C)]
 pub struct SettingsRead {
     pub refusal: u32,
-    pub set: [u32; 4],
-    pub names: [u8; 60],
-    pub ids: [u32; PEERS],
+    pub set: Set,
+    pub names: Names,
+    pub ids: Slots,
 }
 
 // Reads an ID for each place of `ids` from the octets' front, two octets each.
@@ -39,14 +46,14 @@ fn read_ids(ids: &mut [u32], from: &[u8])
 }
 
 // The names of a body as they lie in memory: own address, loss peer, MEG ID.
-fn names_of(body: &[u8]) -> [u8; 60]
+fn names_of(body: &[u8]) -> Names
     requires { ⌜ bodyLength slots ≤ length (now body) ⌝ }
     ensures { λ r. ⌜ r ≡ namesOf (settingsIn slots (now (body .entry))) ⌝ }
 {
-    let mut names = [0u8; 60];
-    copy_octets(&mut names, 0, &body[3..9]);
-    copy_octets(&mut names, 6, &body[58..64]);
-    copy_octets(&mut names, 12, &body[10..58]);
+    let mut names = [0u8; NAMES];
+    copy_octets(&mut names, OWN, &body[3..9]);
+    copy_octets(&mut names, LOSSPEER, &body[58..64]);
+    copy_octets(&mut names, MEG, &body[10..58]);
     names
 }
 

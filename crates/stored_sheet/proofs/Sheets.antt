@@ -10,7 +10,8 @@ use lib.ListN.{length, getD, take, drop, length-append, length-drop, take-append
 use lib.Seq.{getD-drop, drop-append-le, drop-at}
 use Rattle.base_laws.specs.Lists.{part}
 use Rattle.base_laws.proofs.Tests.{known}
-use Rattle.base_octets.specs.Numbers.{inOctets, octetsLowestFirst, Octets}
+use Rattle.base_octets.specs.Octets.{Octets}
+use Rattle.base_numbers.specs.Numbers.{inOctets, octetsLowestFirst}
 use Rattle.base_number_text.specs.Decimal.{decimal, digitsOf, leading}
 use Rattle.stored_record.specs.Record.{headOf, recordOf, kindField, NoRecord, wrong-kind}
 use Rattle.stored_line.specs.declared.LossLine.{LossLine}

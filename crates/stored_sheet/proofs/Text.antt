@@ -23,7 +23,7 @@ use Rattle.stored_line.specs.Line.{KeepsRules}
 use Rattle.stored_line.specs.Calls.{readLine}
 use Rattle.stored_line.proofs.Laws.{near-fits, far-fits}
 use Rattle.stored_line.proofs.Calls.{loss-records}
-use Rattle.stored_sheet.specs.Sheet.{refusedText, lineText, answerText, isLine, textWithin, goodWithin, textOf, allGood}
+use Rattle.stored_sheet.specs.Sheet.{refusedText, lineText, answerText, isLine, textWithin, goodWithin, textOf, allGood, longestLine}
 
 -- ── an answer is one or the other ──
 
@@ -132,7 +132,7 @@ module _ (octets : List ℕ) (some : 0 < length octets) where
 number-long : (z : ℤ) (mark : ℕ) → SFits w64 z → length (decimal z ++ (mark ∷ [])) ≤ 21
 number-long z mark fits = omega (arith, length-append (decimal z) (mark ∷ []), decimals .longest z fits)
 
-pub line-long : (line : LossLine) → SFits w64 (pos (line .intervals)) → SFits w64 (line .near) → SFits w64 (line .far) → length (lineText line) ≤ 63
+pub line-long : (line : LossLine) → SFits w64 (pos (line .intervals)) → SFits w64 (line .near) → SFits w64 (line .far) → length (lineText line) ≤ longestLine
 unfolding lineText
 line-long line i n f =
     let a = decimal (pos (line .intervals)) ++ (32 ∷ []) in
@@ -140,25 +140,25 @@ line-long line i n f =
     let c = decimal (line .far) ++ (10 ∷ []) in
     omega (arith, length-append (a ++ b) c, length-append a b, number-long (pos (line .intervals)) 32 i, number-long (line .near) 32 n, number-long (line .far) 10 f)
 
-pub answer-long : (octets : List ℕ) → length (answerText (readLine octets)) ≤ 63
+pub answer-long : (octets : List ℕ) → length (answerText (readLine octets)) ≤ longestLine
 unfolding answerText
 answer-long octets = by (read octets)
   where
-    by : Read octets → length (answerText (readLine octets)) ≤ 63
+    by : Read octets → length (answerText (readLine octets)) ≤ longestLine
     by (refused e) = rw e (omega arith)
     by (a-line line e) =
         let k = loss-records .kept octets line e in
         rw e (line-long line (fits-size (pos (line .intervals)) (omega (arith, k .few))) (near-fits line k) (far-fits line k))
 
 -- three octets for each octet, and one line more, hold the text
-pub text-long : (n : ℕ) (octets : List ℕ) → length octets ≤ n → length (textOf octets) ≤ 3 * length octets + 63
+pub text-long : (n : ℕ) (octets : List ℕ) → length octets ≤ n → length (textOf octets) ≤ 3 * length octets + longestLine
 text-long zero [] h = rw text-none (omega arith)
 text-long zero (x ∷ xs) h = absurd (omega (arith, h))
 text-long (suc n) [] h = rw text-none (omega arith)
 text-long (suc n) (x ∷ xs) h = by (text-long n (drop 24 (x ∷ xs)) (shorter x xs n h)) (known (isLine (readLine (x ∷ xs))))
   where
-    by : length (textOf (drop 24 (x ∷ xs))) ≤ 3 * length (drop 24 (x ∷ xs)) + 63 → (isLine (readLine (x ∷ xs)) ≡ true) ⊎ (isLine (readLine (x ∷ xs)) ≡ false)
-        → length (textOf (x ∷ xs)) ≤ 3 * length (x ∷ xs) + 63
+    by : length (textOf (drop 24 (x ∷ xs))) ≤ 3 * length (drop 24 (x ∷ xs)) + longestLine → (isLine (readLine (x ∷ xs)) ≡ true) ⊎ (isLine (readLine (x ∷ xs)) ≡ false)
+        → length (textOf (x ∷ xs)) ≤ 3 * length (x ∷ xs) + longestLine
     by rest (inl b) =
         let long = whole-record (x ∷ xs) b in
         let size : length (textOf (x ∷ xs)) ≡ length (answerText (readLine (x ∷ xs))) + length (textOf (drop 24 (x ∷ xs))) =

@@ -7,7 +7,7 @@ use mathlib.Core.Bool.{Bool, true, false, _&&_, cond}
 use mathlib.Core.Logic.{_⊎_}
 use lib.IntN.{pos}
 use lib.ListN.{length, drop}
-use Rattle.base_octets.specs.Numbers.{Octets}
+use Rattle.base_octets.specs.Octets.{Octets}
 use Rattle.base_number_text.specs.Decimal.{decimal}
 use Rattle.stored_record.specs.Record.{kindField, NoRecord}
 use Rattle.stored_line.specs.declared.LossLine.{LossLine}
@@ -29,6 +29,10 @@ refusedText = 114 ∷ 101 ∷ 102 ∷ 117 ∷ 115 ∷ 101 ∷ 100 ∷ 32 ∷ 55 
 -- intervals, near and far: a space behind the first two, a line feed behind the last
 unfoldable pub lineText : LossLine → List ℕ
 lineText line = (decimal (pos (line .intervals)) ++ (32 ∷ [])) ++ (decimal (line .near) ++ (32 ∷ [])) ++ (decimal (line .far) ++ (10 ∷ []))
+
+-- no line is longer: three numbers of at most 20 octets, each with one octet behind it
+abbrev pub longestLine : ℕ
+longestLine = 63
 
 -- ── what is meant ──
 

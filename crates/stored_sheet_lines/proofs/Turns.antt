@@ -9,6 +9,7 @@ use lib.ListN.{length, set, drop, length-append, length-drop, drop-of-length-le}
 use lib.Seq.{drop-drop}
 use mir.Syntax.{w64}
 use mir.Val.{SFits}
+use Rattle.base_laws.specs.Ended.{wrote}
 use Rattle.base_laws.specs.Lists.{laid}
 use Rattle.base_laws.proofs.Lists.{laid-none, laid-more, length-laid}
 use Rattle.base_laws.proofs.Pieces.{Has, first, more}
@@ -19,8 +20,8 @@ use Rattle.base_number_text.proofs.Put.{put-laid, put-place}
 use Rattle.stored_line.specs.declared.LossLine.{LossLine}
 use Rattle.stored_line.specs.declared.LineAnswer.the-variants.{Refused, Line}
 use Rattle.stored_line.specs.Calls.{readLine}
-use Rattle.stored_sheet.specs.Sheet.{refusedText, lineText, answerText, isLine, textOf, allGood}
-use Rattle.stored_sheet_lines.specs.Chunk.{ended, room, writeLines}
+use Rattle.stored_sheet.specs.Sheet.{refusedText, lineText, answerText, isLine, textOf, allGood, longestLine}
+use Rattle.stored_sheet_lines.specs.Chunk.{room, writeLines}
 use Rattle.stored_sheet_lines.specs.declared.Lines.the-variants.{All, Stopped}
 use Rattle.stored_sheet.proofs.Text.{whole-record, answer-long, text-none, good-none, text-good, good-good, text-bad, good-bad}
 use Rattle.stored_sheet_lines.proofs.Chunks.{ends-all, ends-stopped}
@@ -57,11 +58,11 @@ module _ (at mark : ℕ) (value : ℤ) (before : List ℕ) (room : at + 21 ≤ l
   number-most = omega (arith, short, number-place)
 
 -- three numbers, one behind the other, are the line
-pub line-laid : (at : ℕ) (line : LossLine) (l : List ℕ) {x y z : List ℕ} {i n f : ℤ} {p q r : ℕ} → at + 63 ≤ length l → i ≡ pos (line .intervals) → n ≡ line .near → f ≡ line .far
+pub line-laid : (at : ℕ) (line : LossLine) (l : List ℕ) {x y z : List ℕ} {i n f : ℤ} {p q r : ℕ} → at + longestLine ≤ length l → i ≡ pos (line .intervals) → n ≡ line .near → f ≡ line .far
     → (x ≡ laid at (numberText i 32) l) × (p ≡ at + length (numberText i 32)) × (p ≤ at + 21)
     → (y ≡ laid p (numberText n 32) x) × (q ≡ p + length (numberText n 32)) × (q ≤ p + 21)
     → (z ≡ laid q (numberText f 10) y) × (r ≡ q + length (numberText f 10)) × (r ≤ q + 21)
-    → (z ≡ laid at (lineText line) l) × (r ≡ at + length (lineText line)) × (r ≤ at + 63)
+    → (z ≡ laid at (lineText line) l) × (r ≡ at + length (lineText line)) × (r ≤ at + longestLine)
 unfolding lineText
 line-laid at line l {x} {y} {z} {i} {n} {f} {p} {q} {r} h ei en ef a b c =
     let i-text = numberText i 32 in
@@ -72,7 +73,7 @@ line-laid at line l {x} {y} {z} {i} {n} {f} {p} {q} {r} h ei en ef a b c =
     let q-is : q ≡ at + (length i-text + length n-text) = omega (arith, a .1, b .1) in
     let three = more (length f-text) f-text two (c .0 ∙ ap (λ (k : ℕ). laid k f-text y) q-is) refl (omega (arith, h, a .1, a .2, b .1, b .2, c .1, c .2)) in
     let size : r ≡ at + length (i-text ++ n-text ++ f-text) = omega (arith, c .1, q-is, three .long) in
-    let done : (z ≡ laid at (i-text ++ n-text ++ f-text) l) × (r ≡ at + length (i-text ++ n-text ++ f-text)) × (r ≤ at + 63) = (three .is, size, omega (arith, a .2, b .2, c .2)) in
+    let done : (z ≡ laid at (i-text ++ n-text ++ f-text) l) × (r ≡ at + length (i-text ++ n-text ++ f-text)) × (r ≤ at + longestLine) = (three .is, size, omega (arith, a .2, b .2, c .2)) in
     rw (ei, en, ef) at done
 
 -- ── the text of one record ──
@@ -80,7 +81,7 @@ line-laid at line l {x} {y} {z} {i} {n} {f} {p} {q} {r} h ei en ef a b c =
 -- what is written of it: its text, as far as `place`, and whether it was good
 abbrev pub Next : ℕ → List ℕ → List ℕ → List ℕ → ℕ → Bool → Type 0
 Next at from l after place b =
-    (after ≡ laid at (answerText (readLine from)) l) × (place ≡ at + length (answerText (readLine from))) × (b ≡ isLine (readLine from)) × (place ≤ at + 63)
+    (after ≡ laid at (answerText (readLine from)) l) × (place ≡ at + length (answerText (readLine from))) × (b ≡ isLine (readLine from)) × (place ≤ at + longestLine)
 
 module _ (at : ℕ) (from l : List ℕ) where
   pub next-refused : {after : List ℕ} → readLine from ≡ Refused → after ≡ laid at refusedText l → Next at from l after (at + 10) false
@@ -88,7 +89,7 @@ module _ (at : ℕ) (from l : List ℕ) where
   next-refused e f = rw e (f, refl, refl, omega arith)
 
   pub next-line : (line : LossLine) {after : List ℕ} {place : ℕ} → readLine from ≡ Line line
-      → (after ≡ laid at (lineText line) l) × (place ≡ at + length (lineText line)) × (place ≤ at + 63) → Next at from l after place true
+      → (after ≡ laid at (lineText line) l) × (place ≡ at + length (lineText line)) × (place ≤ at + longestLine) → Next at from l after place true
   unfolding answerText isLine
   next-line line e w = rw e (w .0, w .1, refl, w .2)
 
@@ -118,7 +119,7 @@ at-start from before = record {
 }
 
 module _ {from before into : List ℕ} {i at : ℕ} (s : SoFar from before into i at) (h : room from ≤ length before) where
-  pub at-end : length from ≤ i → ended (All at) into ≡ writeLines from before
+  pub at-end : length from ≤ i → wrote (All at) into ≡ writeLines from before
   at-end k =
       let none : drop i from ≡ [] = drop-of-length-le from k in
       let all : textOf from ≡ s .text = s .rest ∙ ap (λ (l : List ℕ). s .text ++ textOf l) none ∙ ap (λ (l : List ℕ). s .text ++ l) text-none ∙ append-nil (s .text) in
@@ -150,7 +151,7 @@ module _ {from before into : List ℕ} {i at : ℕ} (s : SoFar from before into 
     reaches : place ≡ length now-text
     reaches = omega (arith, f, s .long, put .long)
 
-    pub turn-stops : b ≡ false → ended (Stopped place) after ≡ writeLines from before
+    pub turn-stops : b ≡ false → wrote (Stopped place) after ≡ writeLines from before
     turn-stops k =
         let bad = sym g ∙ k in
         let all : textOf from ≡ now-text = s .rest ∙ ap (λ (l : List ℕ). s .text ++ l) (text-bad left some bad) in
@@ -176,5 +177,5 @@ module _ {from before into : List ℕ} {i at : ℕ} (s : SoFar from before into 
         }
     -- a line has room where a record is still to come
 
-  pub line-room : i < length from → at + 63 ≤ length into
+  pub line-room : i < length from → at + longestLine ≤ length into
   line-room more = omega (arith, h, more, s .most, s .same)

@@ -8,30 +8,23 @@ use lib.Dec.{ltb}
 use lib.ListN.{length}
 use Rattle.base_laws.specs.Tests.{choose}
 use Rattle.base_laws.specs.Lists.{laid}
+use Rattle.base_laws.specs.Ended.{Wrote, wrote}
 use Rattle.stored_sheet_lines.specs.declared.Lines.{Lines}
 use Rattle.stored_sheet_lines.specs.declared.Lines.the-variants.{NoRoom, All, Stopped}
-use Rattle.stored_sheet.specs.Sheet.{textOf, allGood}
+use Rattle.stored_sheet.specs.Sheet.{textOf, allGood, longestLine}
 
--- what is answered, and what the buffer then holds
-pub record LinesEnd : Type 0 where
-  pub answer : Lines
-  pub buffer : List ℕ
-
-abbrev pub ended : Lines → List ℕ → LinesEnd
-ended answer buffer = record { answer = answer; buffer = buffer }
-
--- the room that is asked for: a line has at most 63 octets, fewer than three for each of its record's 24
+-- the room that is asked for: a longest line has fewer than three octets for each of its record's 24
 abbrev pub room : List ℕ → ℕ
-room octets = 3 * length octets + 63
+room octets = 3 * length octets + longestLine
 
 -- too little room; the text of all; the text up to a bad record
-unfoldable pub writeLines : List ℕ → List ℕ → LinesEnd
+unfoldable pub writeLines : List ℕ → List ℕ → Wrote Lines
 writeLines octets buffer =
     choose (
-    (ltb (length buffer) (room octets), ended NoRoom buffer)
-    ∷ (allGood octets, ended (All (length (textOf octets))) (laid 0 (textOf octets) buffer))
+    (ltb (length buffer) (room octets), wrote NoRoom buffer)
+    ∷ (allGood octets, wrote (All (length (textOf octets))) (laid 0 (textOf octets) buffer))
     ∷ [])
-    (ended (Stopped (length (textOf octets))) (laid 0 (textOf octets) buffer))
+    (wrote (Stopped (length (textOf octets))) (laid 0 (textOf octets) buffer))
 
 -- what is said of every chunk
 pub record Chunks : Type 0 where

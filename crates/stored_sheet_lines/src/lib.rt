@@ -3,20 +3,21 @@ ghost use mathlib.Core.Path.{_≡_};
 ghost use mathlib.Core.List.{[], _∷_, _++_};
 ghost use Prim.Native.Nat.{_+_, _≤_};
 ghost use lib.ListN.{length};
+ghost use Rattle.base_laws.specs.Ended.{wrote};
 ghost use Rattle.base_laws.specs.Lists.{laid};
 ghost use Rattle.base_number_text.specs.Decimal.{decimal};
 ghost use Rattle.stored_line.specs.Calls.{readLine};
-ghost use Rattle.stored_sheet.specs.Sheet.{lineText, refusedText, answerText, isLine};
-ghost use Rattle.stored_sheet_lines.specs.Chunk.{ended, writeLines};
+ghost use Rattle.stored_sheet.specs.Sheet.{lineText, refusedText, answerText, isLine, longestLine};
+ghost use Rattle.stored_sheet_lines.specs.Chunk.{writeLines};
 use base_number_write::write_decimal;
-use base_octets::parts::copy_octets;
+use base_octets::copy_octets;
 use stored_line::LINE;
 use stored_line::LineAnswer;
 use stored_line::LossLine;
 use stored_line_calls::read_line;
 
-// No line is longer: three numbers of at most 20 octets, each with one octet behind it.
-const LONGEST: usize = 63;
+// No line is longer: three numbers of at most 20 octets, each with one octet behind it. The definitions have theirs, `longestLine`.
+pub const LONGEST: usize = 63;
 
 // What the text of some records is answered.
 pub enum Lines {
@@ -37,7 +38,9 @@ struct Turn {
 // Writes a number and one octet behind it at a place, and answers the place behind both.
 fn put_number(into: &mut [u8], at: usize, value: i64, mark: u8) -> usize
     requires { ⌜ at + 21 ≤ length (now into) ⌝ }
-    ensures { λ r. ⌜ (now (into .exit) ≡ laid at (decimal value ++ (mark ∷ [])) (now (into .entry))) × (r ≡ at + length (decimal value ++ (mark ∷ []))) × (r ≤ at + 21) ⌝ }
+    ensures { λ r. ⌜ (now (into .exit) ≡ laid at (decimal value ++ (mark ∷ [])) (now (into .entry)))
+        × (r ≡ at + length (decimal value ++ (mark ∷ [])))
+        × (r ≤ at + 21) ⌝ }
 {
     let behind = write_decimal(into, at, value);
     into[behind] = mark;
@@ -46,8 +49,10 @@ fn put_number(into: &mut [u8], at: usize, value: i64, mark: u8) -> usize
 
 // Writes a line at a place, and answers the place behind it.
 fn put_line(into: &mut [u8], at: usize, line: LossLine) -> usize
-    requires { ⌜ at + 63 ≤ length (now into) ⌝ }
-    ensures { λ r. ⌜ (now (into .exit) ≡ laid at (lineText line) (now (into .entry))) × (r ≡ at + length (lineText line)) × (r ≤ at + 63) ⌝ }
+    requires { ⌜ at + longestLine ≤ length (now into) ⌝ }
+    ensures { λ r. ⌜ (now (into .exit) ≡ laid at (lineText line) (now (into .entry)))
+        × (r ≡ at + length (lineText line))
+        × (r ≤ at + longestLine) ⌝ }
 {
     let first = put_number(into, at, line.intervals as i64, b' ');
     let second = put_number(into, first, line.near, b' ');
@@ -56,8 +61,11 @@ fn put_line(into: &mut [u8], at: usize, line: LossLine) -> usize
 
 // Writes the text of the record at the front of the octets at a place: its line, or the refusal.
 fn put_next(into: &mut [u8], at: usize, from: &[u8]) -> Turn
-    requires { ⌜ at + 63 ≤ length (now into) ⌝ }
-    ensures { λ r. ⌜ (now (into .exit) ≡ laid at (answerText (readLine (now (from .entry)))) (now (into .entry))) × (r .at ≡ at + length (answerText (readLine (now (from .entry))))) × (r .good ≡ isLine (readLine (now (from .entry)))) × (r .at ≤ at + 63) ⌝ }
+    requires { ⌜ at + longestLine ≤ length (now into) ⌝ }
+    ensures { λ r. ⌜ (now (into .exit) ≡ laid at (answerText (readLine (now (from .entry)))) (now (into .entry)))
+        × (r .at ≡ at + length (answerText (readLine (now (from .entry)))))
+        × (r .good ≡ isLine (readLine (now (from .entry))))
+        × (r .at ≤ at + longestLine) ⌝ }
 {
     match read_line(from) {
         LineAnswer::Refused => {
@@ -77,7 +85,7 @@ fn put_next(into: &mut [u8], at: usize, from: &[u8]) -> Turn
 // Writes the text of a chunk of records into the front of the buffer: as far as the first bad one, if there is one. It asks for three octets of room
 // for each octet read and one line more, which is always enough, so that the text need not be measured first.
 pub fn write_lines(into: &mut [u8], from: &[u8]) -> Lines
-    ensures { λ r. ⌜ ended r (now (into .exit)) ≡ writeLines (now (from .entry)) (now (into .entry)) ⌝ }
+    ensures { λ r. ⌜ wrote r (now (into .exit)) ≡ writeLines (now (from .entry)) (now (into .entry)) ⌝ }
 {
     if into.len() < LONGEST {
         return Lines::NoRoom;

@@ -1,7 +1,7 @@
 -- `call_clear::clear` meets its contract: refusal 2, or the cleared session put in its place.
 use mathlib.Core.Path.{_≡_}
 use lib.ListN.{length}
-use Rattle.state_view.specs.State.{lying}
+use Rattle.state_view.specs.State.{lying, runWords, lossTotals}
 use Rattle.call_clear.proofs.Clears.{ends-2, ends-cleared}
 use borrow.Author.Needs.{needs}
 use Rattle.call_clear.proofs.clear.Statement.{statement}
@@ -14,8 +14,8 @@ returns : tie.Need-returns
 returns c =
     let a = c .before .before .before .before .before .before .before .before .args in
     let s = lying (a .set) (a .names) (a .ids) (a .timers) (a .rdi) (a .run) (a .totals) in
-    let w : length (a .run .now) ≡ 15 = search needs in
-    let z : length (a .totals .now) ≡ 2 = search needs in
+    let w : length (a .run .now) ≡ runWords = search needs in
+    let z : length (a .totals .now) ≡ lossTotals = search needs in
     (ends-2 s (c .before .is-well-formed .ensures) (c .if1 .taken), record { words = w; both = z })
 
 cleared-requires : tie.Need-cleared-requires

@@ -14,8 +14,8 @@ enum-told-2 c = search needs
 enum-told-3 : tie.Need-enum-told-3
 enum-told-3 c = search needs
 
-enum-told-4 : tie.Need-enum-told-4
-enum-told-4 c = search needs
+enum-known-answer : tie.Need-enum-known-answer
+enum-known-answer c = search needs
 
 returns : tie.Need-returns
 unfolding dmmTold
@@ -31,7 +31,7 @@ returns-3 c = sym (ap dmmTold (c .enum-told3 .given .1))
 
 returns-4 : tie.Need-returns-4
 unfolding dmmTold
-returns-4 c = sym (ap dmmTold (c .enum-told4 .given .1))
+returns-4 c = sym (ap dmmTold (c .before .answer .given .1))
 
 pub tell-dmm-spec : {M : Type 1} → statement M
 tell-dmm-spec =
@@ -40,7 +40,7 @@ tell-dmm-spec =
     enum-told
     enum-told-2
     enum-told-3
-    enum-told-4
+    enum-known-answer
     returns
     returns-2
     returns-3

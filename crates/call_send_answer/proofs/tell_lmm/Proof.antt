@@ -11,8 +11,8 @@ enum-told c = search needs
 enum-told-2 : tie.Need-enum-told-2
 enum-told-2 c = search needs
 
-enum-told-3 : tie.Need-enum-told-3
-enum-told-3 c = search needs
+enum-known-answer : tie.Need-enum-known-answer
+enum-known-answer c = search needs
 
 returns : tie.Need-returns
 unfolding lmmTold
@@ -24,8 +24,8 @@ returns-2 c = sym (ap lmmTold (c .enum-told2 .given .1))
 
 returns-3 : tie.Need-returns-3
 unfolding lmmTold
-returns-3 c = sym (ap lmmTold (c .enum-told3 .given .1))
+returns-3 c = sym (ap lmmTold (c .before .answer .given .1))
 
 pub tell-lmm-spec : {M : Type 1} → statement M
 tell-lmm-spec =
-    tie.close (tie.spec enum-told enum-told-2 enum-told-3 returns returns-2 returns-3)
+    tie.close (tie.spec enum-told enum-told-2 enum-known-answer returns returns-2 returns-3)

@@ -14,8 +14,8 @@ enum-told-2 c = search needs
 enum-told-3 : tie.Need-enum-told-3
 enum-told-3 c = search needs
 
-enum-told-4 : tie.Need-enum-told-4
-enum-told-4 c = search needs
+enum-known-answer : tie.Need-enum-known-answer
+enum-known-answer c = search needs
 
 returns : tie.Need-returns
 unfolding tickTold
@@ -31,9 +31,9 @@ returns-3 c = sym (ap tickTold (c .enum-told3 .given .1))
 
 returns-4 : tie.Need-returns-4
 unfolding tickTold
-returns-4 c = sym (ap tickTold (c .enum-told4 .given .1))
+returns-4 c = sym (ap tickTold (c .before .answer .given .1))
 
 pub tell-tick-spec : {M : Type 1} → statement M
 tell-tick-spec =
     tie.close
-    (tie.spec enum-told enum-told-2 enum-told-3 enum-told-4 returns returns-2 returns-3 returns-4)
+    (tie.spec enum-told enum-told-2 enum-told-3 enum-known-answer returns returns-2 returns-3 returns-4)

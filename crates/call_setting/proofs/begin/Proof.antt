@@ -1,7 +1,7 @@
 -- `call_setting::begin` meets its contract: the used peers' timers at the hold time, a period to run, zeros elsewhere.
 use Prim.Native.Nat.{ℕ}
 use mathlib.Core.Path.{_≡_, ap, _∙_}
-use mathlib.Core.List.{List, [], _∷_}
+use mathlib.Core.List.{List}
 use denote.Ref.{now}
 use lib.IntN.{pos}
 use lib.ListN.{getD, replicate, set}
@@ -9,7 +9,8 @@ use borrow.Author.Needs.{needs}
 use Rattle.base_laws.specs.Lists.{onFirst}
 use Rattle.base_period.specs.Periods.{ticksOf}
 use Rattle.state_settings.specs.Settings.{slots, settingsOf}
-use Rattle.call_setting_answer.specs.declared.SettingAnswer.the-variants.{Set}
+use Rattle.state_view.specs.State.{runWords, lossTotals}
+use Rattle.call_setting.specs.declared.SettingAnswer.the-variants.{Set}
 use Rattle.call_setting.specs.declared.Started.{Started}
 use Rattle.call_setting.specs.Start.{startOf, startedWith}
 use Rattle.call_setting.proofs.begin.Statement.{statement}
@@ -20,7 +21,7 @@ made : (words names ids timers : List ℕ) (next : ℕ) → timers ≡ startOf (
     → _≡_ {A = Started}
     (record {
       answer = Set;
-      state = record { set = words; names = names; ids = ids; timers = timers; rdi = replicate slots 0; run = set (replicate 15 0) 6 next; totals = pos 0 ∷ pos 0 ∷ [] };
+      state = record { set = words; names = names; ids = ids; timers = timers; rdi = replicate slots 0; run = set (replicate runWords 0) 6 next; totals = replicate lossTotals (pos 0) };
     })
     (startedWith words names ids)
 unfolding startedWith

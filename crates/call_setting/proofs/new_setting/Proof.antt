@@ -6,10 +6,10 @@ use mathlib.Core.List.{List}
 use denote.Ref.{now}
 use lib.ListN.{length}
 use borrow.Author.Tests.{not-true, not-false}
-use Rattle.state_settings.specs.Settings.{slots, settingsOf, Shaped}
+use Rattle.state_settings.specs.Settings.{slots, settingsOf, Shaped, nameOctets}
 use Rattle.state_settings.specs.Valid.{valid}
 use Rattle.state_settings.proofs.Shape.{handed-shaped}
-use Rattle.call_setting_answer.specs.Told.{told}
+use Rattle.call_setting.specs.Told.{told}
 use Rattle.call_setting.specs.declared.Started.{Started}
 use Rattle.call_setting.specs.Start.{startedWith, noState, settingOf, numbersOf}
 use Rattle.call_setting.proofs.Starts.{agree, answers}
@@ -19,7 +19,7 @@ use Rattle.call_setting.proofs.new_setting.Tie as tie
 
 -- the definition's answer, and its number
 module _ (words names ids : List ℕ) (r : Started) where
-  told-of : length names ≡ 60 → length ids ≡ slots → r ≡ settingOf words names ids
+  told-of : length names ≡ nameOctets → length ids ≡ slots → r ≡ settingOf words names ids
       → (r ≡ settingOf words names ids) × ((told (r .answer) ≡ numbersOf (settingsOf words names ids)) × Shaped slots (settingsOf words names ids))
   told-of h k e = (
     e,

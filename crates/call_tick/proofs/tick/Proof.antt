@@ -2,7 +2,7 @@
 use mathlib.Core.Path.{_≡_}
 use denote.Ref.{now}
 use lib.ListN.{length}
-use Rattle.state_view.specs.State.{lying}
+use Rattle.state_view.specs.State.{lying, runWords, lossTotals}
 use Rattle.call_tick.proofs.Ended.{good, bad, ends-2, ends-quiet, ends-3, ends-sent}
 use borrow.Author.Needs.{needs}
 use Rattle.call_tick.proofs.tick.Statement.{statement}
@@ -15,8 +15,8 @@ returns : tie.Need-returns
 returns c =
     let a = c .before .before .before .before .before .before .before .before .args in
     let s = lying (a .set) (a .names) (a .ids) (a .timers) (a .rdi) (a .run) (a .totals) in
-    let w : length (a .run .now) ≡ 15 = search needs in
-    let z : length (a .totals .now) ≡ 2 = search needs in
+    let w : length (a .run .now) ≡ runWords = search needs in
+    let z : length (a .totals .now) ≡ lossTotals = search needs in
     (ends-2 s (now (a .out)) (bad s (c .before .is-well-formed .ensures) (c .if1 .taken)), record { words = w; both = z })
 
 element-copy-out-left : tie.Need-element-copy-out-left
@@ -39,8 +39,8 @@ returns-3 : tie.Need-returns-3
 returns-3 c =
     let a = c .before .before .before .before .before .before .before .before .before .before .before .args in
     let s = lying (a .set) (a .names) (a .ids) (a .timers) (a .rdi) (a .run) (a .totals) in
-    let w : length (a .run .now) ≡ 15 = search needs in
-    let z : length (a .totals .now) ≡ 2 = search needs in
+    let w : length (a .run .now) ≡ runWords = search needs in
+    let z : length (a .totals .now) ≡ lossTotals = search needs in
     let well = good s (c .before .before .before .before .is-well-formed .ensures) (c .before .before .before .if1 .left) in
     (ends-3 s (now (a .out)) well (c .before .if2 .left) (c .if3 .taken), record { words = w; both = z })
 

@@ -5,7 +5,7 @@ use mathlib.Core.List.{List}
 use denote.Ref.{now}
 use lib.ListN.{length}
 use Rattle.base_laws.specs.Lists.{part}
-use Rattle.state_settings.specs.Settings.{addressAt}
+use Rattle.state_settings.specs.Settings.{addressAt, megNamed}
 use Rattle.state_view.specs.State.{lying}
 use Rattle.message_parts.specs.Buffer.{writtenOf, bufferOf, numbersOf}
 use Rattle.call_tick_ccm.proofs.Said.{said}
@@ -42,7 +42,7 @@ returns c =
     let s = lying (a .set) (a .names) (a .ids) (a .timers) (a .rdi) (a .run) (a .totals) in
     let flag = c .before .before .before .before .before .before .before .before .flag-of in
     let stands = c .before .before .before .before .before .before .before .before .before .before .any-stands in
-    let e = said s (addressAt 0 f) (part 12 48 f) (flag .result) (stands .result) refl refl (flag .ensures) (stands .ensures) in
+    let e = said s (addressAt 0 f) (megNamed f) (flag .result) (stands .result) refl refl (flag .ensures) (stands .ensures) in
     let w = c .before .before .write-ccm .ensures in (
       (w .0 .0 ∙ ap (λ (m : List ℕ). writtenOf m o) e, w .0 .1 ∙ ap (λ (m : List ℕ). numbersOf m o) e),
       (w .1 .0 ∙ ap (λ (m : List ℕ). bufferOf m o) e, sym (ap length e) ∙ w .1 .1),

@@ -1,6 +1,7 @@
 -- `call_tick_lower::pass_tick` meets its contract: two runs of timers lowered, one word stored.
 use mathlib.Core.Path.{_≡_}
 use lib.ListN.{length}
+use Rattle.state_view.specs.State.{runWords, lossTotals}
 use Rattle.call_tick_lower.proofs.Lower.{passed}
 use borrow.Author.Needs.{needs}
 use Rattle.call_tick_lower.proofs.pass_tick.Statement.{statement}
@@ -18,8 +19,8 @@ element-write-run c = search needs
 returns : tie.Need-returns
 returns c =
     let a = c .before .before .before .before .before .before .before .args in
-    let w : length (a .run .now) ≡ 15 = search needs in
-    let z : length (a .totals .now) ≡ 2 = search needs in
+    let w : length (a .run .now) ≡ runWords = search needs in
+    let z : length (a .totals .now) ≡ lossTotals = search needs in
     let view = passed (a .set .now) (a .names .now) (a .ids .now) (a .timers .now) (a .rdi .now) (a .run .now) (a .totals .now) (a .left) w (c .before .before .lower-peers .ensures) (c .lower-running .ensures) in
     (view .0, record { words = view .1; both = z })
 

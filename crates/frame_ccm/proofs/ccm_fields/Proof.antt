@@ -9,7 +9,7 @@ use Rattle.frame_opcodes.specs.Opcodes.{ruleOf}
 use Prim.Native.Nat.{_/_}
 use Rattle.base_bits.specs.Fields.{mepId}
 use Rattle.base_laws.specs.Lists.{part}
-use Rattle.base_octets.specs.Numbers.{number, bigEndian}
+use Rattle.base_numbers.specs.Numbers.{number, bigEndian}
 use Rattle.frame_head.specs.Head.{pduOf, flagsOf, word}
 use Rattle.frame_message.specs.Message.{periodCode}
 use Rattle.frame_ccm.specs.declared.CcmFields.{CcmFields}

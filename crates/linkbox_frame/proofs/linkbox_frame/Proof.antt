@@ -1,6 +1,7 @@
 -- `linkbox_frame::linkbox_frame` meets its contract: the room's answer, told.
-use mathlib.Core.Path.{sym, ap, _∙_}
-use Rattle.receive_carry_out.specs.CarryOut.{Framed}
+use mathlib.Core.Path.{sym}
+use Rattle.base_laws.proofs.Ended.{told-by}
+use Rattle.receive_answer.specs.Told.{told}
 use borrow.Author.Needs.{needs}
 use Rattle.linkbox_frame.proofs.linkbox_frame.Statement.{statement}
 use Rattle.linkbox_frame.proofs.linkbox_frame.Tie as tie
@@ -20,7 +21,7 @@ same-length c = search needs
 returns : tie.Need-returns
 returns c =
     let e = c .before .before .before .on-frame .ensures in
-    rw (sym (c .before .before .before .before .before .side-of .ensures)) (c .tell .ensures ∙ e .1 .0, ((ap (λ (r : Framed). r .state) (e .0), ap (λ (r : Framed). r .buffer) (e .0)), e .1 .1))
+    rw (sym (c .before .before .before .before .before .side-of .ensures)) (told-by told (c .tell .ensures) (e .0), e .1 .1)
 
 pub linkbox-frame-spec : {M : Type 1} → statement M
 linkbox-frame-spec =

@@ -1,6 +1,6 @@
 -- `linkbox_records::linkbox_write_line` meets its contract: the room's answer, told.
-use mathlib.Core.Path.{ap, _∙_}
-use Rattle.stored_record.specs.Writing.{RecordEnd}
+use Rattle.base_laws.proofs.Ended.{told-by}
+use Rattle.stored_record.specs.Writing.{told}
 use borrow.Author.Needs.{needs}
 use Rattle.linkbox_records.proofs.linkbox_write_line.Statement.{statement}
 use Rattle.linkbox_records.proofs.linkbox_write_line.Tie as tie
@@ -15,7 +15,7 @@ same-length : tie.Need-same-length
 same-length c = search needs
 
 returns : tie.Need-returns
-returns c = let e = c .before .before .before .write-line .ensures in (c .tell .ensures ∙ e .1, ap (λ (r : RecordEnd). r .buffer) (e .0))
+returns c = let e = c .before .before .before .write-line .ensures in told-by told (c .tell .ensures) (e .0)
 
 pub linkbox-write-line-spec : {M : Type 1} → statement M
 linkbox-write-line-spec =

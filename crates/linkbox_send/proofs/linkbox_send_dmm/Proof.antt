@@ -1,6 +1,6 @@
 -- `linkbox_send::linkbox_send_dmm` meets its contract: the room's answer, told.
-use mathlib.Core.Path.{ap, _∙_}
-use Rattle.call_send_dmm.specs.Dmm.{DmmEnd}
+use Rattle.base_laws.proofs.Ended.{told-by}
+use Rattle.call_send_answer.specs.Told.{dmmTold}
 use borrow.Author.Needs.{needs}
 use Rattle.linkbox_send.proofs.linkbox_send_dmm.Statement.{statement}
 use Rattle.linkbox_send.proofs.linkbox_send_dmm.Tie as tie
@@ -15,7 +15,7 @@ same-length : tie.Need-same-length
 same-length c = search needs
 
 returns : tie.Need-returns
-returns c = let e = c .before .before .before .send-dmm .ensures in ((c .tell-dmm .ensures ∙ e .0 .1, ap (λ (r : DmmEnd). r .buffer) (e .0 .0)), e .1)
+returns c = let e = c .before .before .before .send-dmm .ensures in (told-by dmmTold (c .tell-dmm .ensures) (e .0 .0), e .1)
 
 pub linkbox-send-dmm-spec : {M : Type 1} → statement M
 linkbox-send-dmm-spec =

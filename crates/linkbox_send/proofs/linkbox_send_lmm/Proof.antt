@@ -1,6 +1,6 @@
 -- `linkbox_send::linkbox_send_lmm` meets its contract: the room's answer, told.
-use mathlib.Core.Path.{ap, _∙_}
-use Rattle.call_send_lmm.specs.Lmm.{LmmEnd}
+use Rattle.base_laws.proofs.Ended.{told-by}
+use Rattle.call_send_answer.specs.Told.{lmmTold}
 use borrow.Author.Needs.{needs}
 use Rattle.linkbox_send.proofs.linkbox_send_lmm.Statement.{statement}
 use Rattle.linkbox_send.proofs.linkbox_send_lmm.Tie as tie
@@ -15,7 +15,7 @@ same-length : tie.Need-same-length
 same-length c = search needs
 
 returns : tie.Need-returns
-returns c = let e = c .before .before .before .send-lmm .ensures in (c .tell-lmm .ensures ∙ e .1, ap (λ (r : LmmEnd). r .buffer) (e .0))
+returns c = let e = c .before .before .before .send-lmm .ensures in told-by lmmTold (c .tell-lmm .ensures) (e .0)
 
 pub linkbox-send-lmm-spec : {M : Type 1} → statement M
 linkbox-send-lmm-spec =

@@ -1,7 +1,8 @@
 -- `linkbox_state::linkbox_clear` meets its contract: the room's answer, told.
-use mathlib.Core.Path.{ap, _∙_}
+use mathlib.Core.Path.{ap}
+use Rattle.base_laws.proofs.Ended.{told-by}
+use Rattle.call_clear.specs.Clear.{told}
 use Rattle.call_clear.specs.declared.ClearTold.{ClearTold}
-use Rattle.call_clear.specs.Clear.{ClearEnd}
 use borrow.Author.Needs.{needs}
 use Rattle.linkbox_state.proofs.linkbox_clear.Statement.{statement}
 use Rattle.linkbox_state.proofs.linkbox_clear.Tie as tie
@@ -13,7 +14,7 @@ tell-requires : tie.Need-tell-requires
 tell-requires c κs = search needs
 
 returns : tie.Need-returns
-returns c = let e = c .before .clear .ensures in (ap (λ (t : ClearTold). t .refusal) (c .tell .ensures ∙ e .0 .1), (ap (λ (r : ClearEnd). r .state) (e .0 .0), e .1))
+returns c = let e = c .before .clear .ensures in (told-by (λ answer. told answer .refusal) (ap (λ (t : ClearTold). t .refusal) (c .tell .ensures)) (e .0 .0), e .1)
 
 pub linkbox-clear-spec : {M : Type 1} → statement M
 linkbox-clear-spec = tie.close (tie.spec clear-requires tell-requires returns)

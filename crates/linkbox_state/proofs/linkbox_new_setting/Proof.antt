@@ -1,7 +1,7 @@
 -- `linkbox_state::linkbox_new_setting` meets its contract: the room's answer, told, and its state.
 use Prim.Native.Nat.{ℕ}
 use mathlib.Core.Path.{_≡_, ap, _∙_}
-use Rattle.call_setting_answer.specs.declared.SettingTold.{SettingTold}
+use Rattle.call_setting.specs.declared.SettingTold.{SettingTold}
 use Rattle.call_setting.specs.declared.Started.{Started}
 use Rattle.state_view.specs.declared.StateArrays.{StateArrays}
 use Rattle.linkbox_state.specs.declared.NewBox.{NewBox}

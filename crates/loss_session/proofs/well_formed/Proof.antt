@@ -9,7 +9,7 @@ use mir.Val.{SFits}
 use borrow.Author.Needs.{needs}
 use Rattle.base_laws.proofs.Stored.{back}
 use Rattle.loss_session.specs.declared.LossSession.{LossSession}
-use Rattle.loss_session.specs.Session.{allZero, wellFormed}
+use Rattle.loss_session.specs.Session.{allZero, wellFormed, mostIntervals}
 use Rattle.loss_session.proofs.well_formed.Statement.{statement}
 use Rattle.loss_session.proofs.well_formed.Tie as tie
 
@@ -36,7 +36,7 @@ far-fits c = search needs
 
 -- the test, made of what the three calls answered
 joined : (s : LossSession) (n f : ℕ) (z : Bool) → n ≡ natAbs (s .near) → f ≡ natAbs (s .far) → z ≡ allZero (s .last)
-    → leb (s .kept) 1 && leb (s .intervals) 1000000000 && (eqb (s .kept) 1 || eqb (s .intervals) 0 && z) && leb n (s .intervals * 4294967295) && leb f (s .intervals * 4294967295) ≡ wellFormed s
+    → leb (s .kept) 1 && leb (s .intervals) mostIntervals && (eqb (s .kept) 1 || eqb (s .intervals) 0 && z) && leb n (s .intervals * 4294967295) && leb f (s .intervals * 4294967295) ≡ wellFormed s
 unfolding wellFormed
 joined s n f z en ef ez = rw (en, ef, ez) refl
 

@@ -7,7 +7,7 @@ use denote.Ref.{now}
 use lib.ListN.{length}
 use lib.Seq.{length-take-le}
 use Rattle.base_laws.specs.Lists.{part, laid}
-use Rattle.state_settings.specs.Settings.{addressAt}
+use Rattle.state_settings.specs.Settings.{addressAt, nameOctets, megNamed}
 use Rattle.message_parts.proofs.Numbers.{no-room, room}
 use Rattle.message_ccm.specs.Continuity.{ccmOctets}
 use Rattle.message_ccm.proofs.Laid.{ccm-laid, ccm-long, own-long, meg-long}
@@ -19,9 +19,9 @@ returns : tie.Need-returns
 returns c =
     let a = c .before .before .before .args in
     let f = a .names .now in
-    let h : length f ≡ 60 = search needs in
-    let long = ccm-long (addressAt 0 f) (part 12 48 f) (a .ccm) (own-long f h) (meg-long f h) in
-    let w = no-room (ccmOctets (addressAt 0 f) (part 12 48 f) (a .ccm)) (now (a .into)) 89 long (omega arith) in
+    let h : length f ≡ nameOctets = search needs in
+    let long = ccm-long (addressAt 0 f) (megNamed f) (a .ccm) (own-long f h) (meg-long f h) in
+    let w = no-room (ccmOctets (addressAt 0 f) (megNamed f) (a .ccm)) (now (a .into)) 89 long (omega arith) in
     (w .0, (w .1, long))
 
 multicast-of-requires : tie.Need-multicast-of-requires
@@ -36,7 +36,7 @@ copy-octets-requires c κs = search needs
 slice-aggregate-write-head : tie.Need-slice-aggregate-write-head
 slice-aggregate-write-head c =
     let f = c .before .before .before .before .before .before .before .before .before .before .before .args .names .now in
-    let h : length f ≡ 60 = search needs in
+    let h : length f ≡ nameOctets = search needs in
     sym (length-take-le 6 f (omega arith))
 
 first-octet-requires : tie.Need-first-octet-requires
@@ -49,7 +49,7 @@ write-head-requires : tie.Need-write-head-requires
 unfolding part
 write-head-requires c κs =
     let f = c .before .before .before .before .before .before .before .before .before .before .before .before .before .args .names .now in
-    let h : length f ≡ 60 = search needs in
+    let h : length f ≡ nameOctets = search needs in
     (search needs, own-long f h)
 
 sub-write-ccm-fixed : tie.Need-sub-write-ccm-fixed
@@ -79,16 +79,16 @@ returns-2 c =
     let test = c .before .before .before .before .before .before .before .before .before .before .before .before .before .before .before .before .before .before .if1 in
     let a = c .before .before .before .before .before .before .before .before .before .before .before .before .before .before .before .before .before .before .before .before .before .args in
     let f = a .names .now in
-    let h : length f ≡ 60 = search needs in
+    let h : length f ≡ nameOctets = search needs in
     let l = now (a .into) in
-    let long = ccm-long (addressAt 0 f) (part 12 48 f) (a .ccm) (own-long f h) (meg-long f h) in
-    let laid-all = ccm-laid (addressAt 0 f) (part 12 48 f) (a .ccm) (octet .result) (flags .result) l (own-long f h) (meg-long f h) (test .left)
+    let long = ccm-long (addressAt 0 f) (megNamed f) (a .ccm) (own-long f h) (meg-long f h) in
+    let laid-all = ccm-laid (addressAt 0 f) (megNamed f) (a .ccm) (octet .result) (flags .result) l (own-long f h) (meg-long f h) (test .left)
     (octet .ensures)
     (flags .ensures)
     (address .copy-octets .ensures ∙ ap (λ (xs : List ℕ). laid 0 xs l) (group .multicast-of .ensures))
     (head .write-head .ensures)
     (fixed .write-ccm-fixed .ensures) in
-    let w = room (ccmOctets (addressAt 0 f) (part 12 48 f) (a .ccm)) l 89 long (fixed .write-ccm-fixed .last .0) (test .left) laid-all in
+    let w = room (ccmOctets (addressAt 0 f) (megNamed f) (a .ccm)) l 89 long (fixed .write-ccm-fixed .last .0) (test .left) laid-all in
     (w .0, (w .1, long))
 
 pub write-ccm-spec : {M : Type 1} → statement M

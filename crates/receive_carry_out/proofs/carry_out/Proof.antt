@@ -4,9 +4,10 @@ use mathlib.Core.Path.{_≡_, sym, ap, ap₂, _∙_}
 use mathlib.Core.List.{List}
 use denote.Ref.{now}
 use lib.ListN.{length}
-use Rattle.state_view.specs.State.{viewOf}
+use Rattle.base_laws.specs.Ended.{ended}
+use Rattle.state_view.specs.State.{viewOf, runWords}
 use Rattle.receive_answer.specs.declared.FrameAnswer.{FrameAnswer}
-use Rattle.receive_carry_out.specs.CarryOut.{framed, beside, carriedOut}
+use Rattle.receive_carry_out.specs.CarryOut.{beside, carriedOut}
 use borrow.Author.Needs.{needs}
 use Rattle.receive_carry_out.proofs.carry_out.Statement.{statement}
 use Rattle.receive_carry_out.proofs.carry_out.Tie as tie
@@ -41,7 +42,7 @@ returns c = let a = c .before .before .before .before .before .before .before .b
     let s = viewOf (now (a .set)) (now (a .names)) (now (a .ids)) (now (a .timers)) (now (a .rdi)) (now (a .run)) (now (a .totals)) in
     let f = now (a .frame) in
     let o = now (a .out) in
-    let w : length (now (a .run)) ≡ 15 = search needs in
+    let w : length (now (a .run)) ≡ runWords = search needs in
     let z : length (now (a .totals)) ≡ 2 = search needs in
     (sym (ap (carriedOut s f (a .receive) (a .transmit) o) (c .before .decision .given .1)), record { words = w; both = z })
 
@@ -51,7 +52,7 @@ returns-2 c = let a = c .before .before .before .before .before .before .before 
     let s = viewOf (now (a .set)) (now (a .names)) (now (a .ids)) (now (a .timers)) (now (a .rdi)) (now (a .run)) (now (a .totals)) in
     let f = now (a .frame) in
     let o = now (a .out) in
-    let w : length (now (a .run)) ≡ 15 = search needs in
+    let w : length (now (a .run)) ≡ runWords = search needs in
     let z : length (now (a .totals)) ≡ 2 = search needs in
     (sym (ap (carriedOut s f (a .receive) (a .transmit) o) (c .enum-told .given .1)), record { words = w; both = z })
 
@@ -72,9 +73,9 @@ returns-4 c = let a = c .before .before .before .before .before .before .before 
     let s = viewOf (now (a .set)) (now (a .names)) (now (a .ids)) (now (a .timers)) (now (a .rdi)) (now (a .run)) (now (a .totals)) in
     let f = now (a .frame) in
     let o = now (a .out) in
-    let w : length (now (a .run)) ≡ 15 = search needs in
+    let w : length (now (a .run)) ≡ runWords = search needs in
     let z : length (now (a .totals)) ≡ 2 = search needs in
-    (ap₂ (λ (x : FrameAnswer) (y : List ℕ). framed x s y) (c .before .before .respond .ensures .0) (c .before .before .respond .ensures .1) ∙ sym (ap (carriedOut s f (a .receive) (a .transmit) o) (c .before .before .before .before .before .before .before .before .before .decision3 .given .1)), record { words = w; both = z })
+    (ap₂ (λ (x : FrameAnswer) (y : List ℕ). ended x s y) (c .before .before .respond .ensures .0) (c .before .before .respond .ensures .1) ∙ sym (ap (carriedOut s f (a .receive) (a .transmit) o) (c .before .before .before .before .before .before .before .before .before .decision3 .given .1)), record { words = w; both = z })
 
 returns-5 : tie.Need-returns-5
 unfolding carriedOut
@@ -82,9 +83,9 @@ returns-5 c = let a = c .before .before .before .before .before .before .before 
     let s = viewOf (now (a .set)) (now (a .names)) (now (a .ids)) (now (a .timers)) (now (a .rdi)) (now (a .run)) (now (a .totals)) in
     let f = now (a .frame) in
     let o = now (a .out) in
-    let w : length (now (a .run)) ≡ 15 = search needs in
+    let w : length (now (a .run)) ≡ runWords = search needs in
     let z : length (now (a .totals)) ≡ 2 = search needs in
-    (ap (λ (x : FrameAnswer). framed x s o) (c .delay-answer .ensures) ∙ sym (ap (carriedOut s f (a .receive) (a .transmit) o) (c .before .before .decision4 .given .1)), record { words = w; both = z })
+    (ap (λ (x : FrameAnswer). ended x s o) (c .delay-answer .ensures) ∙ sym (ap (carriedOut s f (a .receive) (a .transmit) o) (c .before .before .decision4 .given .1)), record { words = w; both = z })
 
 pub carry-out-spec : {M : Type 1} → statement M
 carry-out-spec =

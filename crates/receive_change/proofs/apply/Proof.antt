@@ -3,13 +3,15 @@ use Prim.Native.Nat.{ℕ}
 use mathlib.Core.Path.{_≡_, sym, ap, _∙_}
 use denote.Ref.{now}
 use lib.ListN.{length, length-set}
-use Rattle.state_view.specs.State.{viewOf}
+use mathlib.Core.List.{[]}
+use Rattle.base_laws.specs.Ended.{ended}
+use Rattle.state_view.specs.State.{State, viewOf, runWords}
 use Rattle.state_view.specs.Changed.{put}
 use Rattle.state_view.specs.Changed as word
 use Rattle.state_places.proofs.Stores as Stores
 use Rattle.receive_answer.specs.declared.Drop.the-variants.{Level}
 use Rattle.receive_answer.specs.declared.FrameAnswer.the-variants.{Dropped, Passed, Taken}
-use Rattle.receive_change.specs.Change.{ended, applied}
+use Rattle.receive_change.specs.Change.{applied}
 use borrow.Author.Needs.{needs}
 use Rattle.receive_change.proofs.apply.Statement.{statement}
 use Rattle.receive_change.proofs.apply.Tie as tie
@@ -66,9 +68,9 @@ returns : tie.Need-returns
 unfolding applied
 returns c = let a = c .before .before .before .before .before .before .before .before .args in
     let s = viewOf (now (a .set)) (now (a .names)) (now (a .ids)) (now (a .timers)) (now (a .rdi)) (now (a .run)) (now (a .totals)) in
-    let w : length (now (a .run)) ≡ 15 = search needs in
+    let w : length (now (a .run)) ≡ runWords = search needs in
     let z : length (now (a .totals)) ≡ 2 = search needs in (
-      ap (ended Passed) (Stores.word (now (a .set)) (now (a .names)) (now (a .ids)) (now (a .timers)) (now (a .rdi)) (now (a .totals)) (c .one-more .result) word.sent (now (a .run)) w ∙ ap (λ (x : ℕ). put word.sent x s) (c .one-more .ensures))
+      ap (λ (t : State). ended Passed t []) (Stores.word (now (a .set)) (now (a .names)) (now (a .ids)) (now (a .timers)) (now (a .rdi)) (now (a .totals)) (c .one-more .result) word.sent (now (a .run)) w ∙ ap (λ (x : ℕ). put word.sent x s) (c .one-more .ensures))
           ∙ sym (ap (applied s) (c .before .before .enum-told .given .1)),
       record { words = simp length-set w; both = z },
     )
@@ -77,9 +79,9 @@ returns-2 : tie.Need-returns-2
 unfolding applied
 returns-2 c = let a = c .before .before .before .before .before .before .before .before .args in
     let s = viewOf (now (a .set)) (now (a .names)) (now (a .ids)) (now (a .timers)) (now (a .rdi)) (now (a .run)) (now (a .totals)) in
-    let w : length (now (a .run)) ≡ 15 = search needs in
+    let w : length (now (a .run)) ≡ runWords = search needs in
     let z : length (now (a .totals)) ≡ 2 = search needs in (
-      ap (ended Passed) (Stores.word (now (a .set)) (now (a .names)) (now (a .ids)) (now (a .timers)) (now (a .rdi)) (now (a .totals)) (c .one-more2 .result) word.received (now (a .run)) w ∙ ap (λ (x : ℕ). put word.received x s) (c .one-more2 .ensures))
+      ap (λ (t : State). ended Passed t []) (Stores.word (now (a .set)) (now (a .names)) (now (a .ids)) (now (a .timers)) (now (a .rdi)) (now (a .totals)) (c .one-more2 .result) word.received (now (a .run)) w ∙ ap (λ (x : ℕ). put word.received x s) (c .one-more2 .ensures))
           ∙ sym (ap (applied s) (c .before .before .enum-told2 .given .1)),
       record { words = simp length-set w; both = z },
     )
@@ -88,9 +90,9 @@ returns-3 : tie.Need-returns-3
 unfolding applied
 returns-3 c = let a = c .before .before .before .before .before .before .before .before .args in
     let s = viewOf (now (a .set)) (now (a .names)) (now (a .ids)) (now (a .timers)) (now (a .rdi)) (now (a .run)) (now (a .totals)) in
-    let w : length (now (a .run)) ≡ 15 = search needs in
+    let w : length (now (a .run)) ≡ runWords = search needs in
     let z : length (now (a .totals)) ≡ 2 = search needs in (
-      ap (ended (Dropped Level)) (Stores.word (now (a .set)) (now (a .names)) (now (a .ids)) (now (a .timers)) (now (a .rdi)) (now (a .totals)) (c .hold-of .result) word.unexpected-level (now (a .run)) w ∙ ap (λ (x : ℕ). put word.unexpected-level x s) (c .hold-of .ensures))
+      ap (λ (t : State). ended (Dropped Level) t []) (Stores.word (now (a .set)) (now (a .names)) (now (a .ids)) (now (a .timers)) (now (a .rdi)) (now (a .totals)) (c .hold-of .result) word.unexpected-level (now (a .run)) w ∙ ap (λ (x : ℕ). put word.unexpected-level x s) (c .hold-of .ensures))
           ∙ sym (ap (applied s) (c .before .before .enum-told3 .given .1)),
       record { words = simp length-set w; both = z },
     )
@@ -100,7 +102,7 @@ unfolding applied
 returns-4 c = let a = c .before .before .before .before .before .before .before .before .before .before .before .before .args in
     let s = viewOf (now (a .set)) (now (a .names)) (now (a .ids)) (now (a .timers)) (now (a .rdi)) (now (a .run)) (now (a .totals)) in
     let z : length (now (a .totals)) ≡ 2 = search needs in (
-      ap (ended Taken) (c .set-timers .ensures .0)
+      ap (λ (t : State). ended Taken t []) (c .set-timers .ensures .0)
           ∙ sym (ap (applied s) (c .before .before .before .before .before .before .change .given .1)),
       c .set-timers .ensures .1,
     )

@@ -10,8 +10,8 @@ use lib.ListN.{take, drop, length-drop}
 use lib.Seq.{length-take-le}
 use Rattle.base_laws.specs.Lists.{part}
 use Rattle.frame_head.specs.Head.{destinationOf, sourceOf, pduOf, levelOf, opcodeOf}
-use Rattle.frame_addresses.specs.Addresses.{inHead}
-use Rattle.state_settings.specs.Settings.{addressAt}
+use Rattle.frame_head.specs.Addresses.{inHead}
+use Rattle.state_settings.specs.Settings.{nameOctets, addressOctets, losspeerFrom, ownNamed, losspeerNamed}
 use Rattle.receive_for_us.specs.Ours.{forUs}
 use Rattle.receive_decide.specs.Decide.{isOurs}
 use borrow.Author.Needs.{needs}
@@ -20,7 +20,8 @@ use Rattle.receive_decide.proofs.for_us.Tie as tie
 
 -- what was found is what the definition looks at
 ours-is : (names f p to from : List ℕ) (l : ℕ) → p ≡ pduOf f → to ≡ inHead (destinationOf f) f → from ≡ inHead (sourceOf f) f → l ≡ levelOf (pduOf f) → 14 ≤ length f
-    → forUs (take 6 names) (take 6 (drop 6 names)) (opcodeOf p) l to from ≡ isOurs (addressAt 0 names) (addressAt 6 names) f
+    → forUs (take addressOctets names) (take addressOctets (drop losspeerFrom names)) (opcodeOf p) l to from
+    ≡ isOurs (ownNamed names) (losspeerNamed names) f
 unfolding part
 ours-is names f p to from l e h k n long = rw (e, h, k, n, le-ltb (length f) 14 long)
 
@@ -35,8 +36,8 @@ source-requires c κs = search needs
 
 slice-aggregate-is-for-us : tie.Need-slice-aggregate-is-for-us
 slice-aggregate-is-for-us c = let f = c .before .before .before .before .before .before .args .names .now in
-    let h : length f ≡ 60 = search needs in
-    sym (length-take-le 6 f (omega arith))
+    let h : length f ≡ nameOctets = search needs in
+    sym (length-take-le addressOctets f (omega arith))
 
 sub-is-for-us : tie.Need-sub-is-for-us
 sub-is-for-us c = search needs

@@ -12,31 +12,33 @@ use lib.ListN.{take, drop, length-drop, length-take}
 use lib.Seq.{length-take-le}
 use Rattle.base_laws.specs.Lists.{part, same}
 use Rattle.base_laws.proofs.Loops.{pair-lengths}
-use Rattle.state_settings.specs.Settings.{settingsOf}
+use Rattle.state_settings.specs.Settings.{settingsOf, megOctets, megFrom, nameOctets, megNamed}
 use Rattle.receive_peer.proofs.Cases.{mismerge, unknown, other-period, peer}
 use borrow.Author.Needs.{needs}
 use Rattle.receive_peer.proofs.ccm_signal.Statement.{statement}
 use Rattle.receive_peer.proofs.ccm_signal.Tie as tie
 
 -- our MEG ID stands behind the two addresses
-meg-found : (names p : List ℕ) (found : Bool) → found ≡ same (take 48 (drop 10 p)) (take 48 (drop 12 names)) → found ≡ same (take 48 (drop 10 p)) (part 12 48 names)
+meg-found : (names p : List ℕ) (found : Bool) → found ≡ same (take megOctets (drop 10 p)) (take megOctets (drop megFrom names)) → found ≡ same (take megOctets (drop 10 p)) (megNamed names)
 unfolding part
 meg-found names p found e = e
 
--- too few octets are not the 48 of ours
-too-short : (names p : List ℕ) → length names ≡ 60 → length p < 58 → same (take 48 (drop 10 p)) (part 12 48 names) ≡ false
+-- too few octets are not all those of ours
+too-short : (names p : List ℕ) → length names ≡ nameOctets → length p < 58 → same (take megOctets (drop 10 p)) (megNamed names) ≡ false
 unfolding part
 too-short names p n h =
-    let ours : length (take 48 (drop 12 names)) ≡ 48 = length-take-le 48 (drop 12 names) (rw (length-drop 12 names) (omega (arith, n))) in
-    let theirs = length-take 48 (drop 10 p) in
-    pair-lengths eqb (take 48 (drop 10 p)) (take 48 (drop 12 names)) (λ e. omega (arith, ours, theirs, length-drop 10 p, e, h))
+    let ours : length (take megOctets (drop megFrom names)) ≡ megOctets =
+    length-take-le megOctets (drop megFrom names) (rw (length-drop megFrom names) (omega (arith, n))) in
+    let theirs = length-take megOctets (drop 10 p) in
+    pair-lengths eqb (take megOctets (drop 10 p)) (take megOctets (drop megFrom names))
+    (λ e. omega (arith, ours, theirs, length-drop 10 p, e, h))
 
 returns : tie.Need-returns
 returns c = let a = c .before .before .before .args in
     let t = settingsOf (now (a .set)) (now (a .names)) (now (a .ids)) in
     let p = now (a .pdu) in
-    let long : length (now (a .names)) ≡ 60 = search needs in
-    mismerge t p (same (take 48 (drop 10 p)) (t .meg)) refl (too-short (now (a .names)) p long (c .if1 .taken))
+    let long : length (now (a .names)) ≡ nameOctets = search needs in
+    mismerge t p (same (take megOctets (drop 10 p)) (t .meg)) refl (too-short (now (a .names)) p long (c .if1 .taken))
 
 sub-same-octets : tie.Need-sub-same-octets
 sub-same-octets c = search needs

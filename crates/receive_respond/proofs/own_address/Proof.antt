@@ -6,6 +6,7 @@ use native.Mathlib.Omega.{arith}
 use denote.Ref.{now}
 use lib.ListN.{length, getD}
 use Rattle.base_laws.specs.Lists.{part}
+use Rattle.state_settings.specs.Settings.{nameOctets}
 use borrow.Author.Needs.{needs}
 use Rattle.receive_respond.proofs.own_address.Statement.{statement}
 use Rattle.receive_respond.proofs.own_address.Tie as tie
@@ -40,7 +41,7 @@ element-copy-out-t21 c = search needs
 
 returns : tie.Need-returns
 returns c = let l = now (c .before .before .before .before .before .before .before .args .names) in
-    let h : length l ≡ 60 = search needs in
+    let h : length l ≡ nameOctets = search needs in
     first-six l (omega arith)
 
 pub own-address-spec : {M : Type 1} → statement M

@@ -4,7 +4,9 @@ use mathlib.Core.Path.{sym, ap, _∙_}
 use mathlib.Core.List.{List}
 use denote.Ref.{now}
 use Rattle.state_view.specs.State.{viewOf}
-use Rattle.message_reply.specs.Replies.{lbrOctets, lmrOctets, dmrOctets}
+use Rattle.message_lbr.specs.Lbr.{lbrOctets}
+use Rattle.message_lmr.specs.Lmr.{lmrOctets}
+use Rattle.message_dmr.specs.Dmr.{dmrOctets}
 use Rattle.message_reply.specs.Replied.{repliedOf, leftOf}
 use Rattle.receive_respond.specs.Respond.{answerFor, respondedOf, leftAfter}
 use borrow.Author.Needs.{needs}

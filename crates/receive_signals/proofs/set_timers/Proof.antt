@@ -5,7 +5,7 @@ use mathlib.Core.List.{List}
 use denote.Ref.{now}
 use lib.IntN.{ℤ}
 use lib.ListN.{length, set, length-set}
-use Rattle.state_view.specs.State.{viewOf}
+use Rattle.state_view.specs.State.{viewOf, runWords}
 use Rattle.state_view.specs.Changed.{put, heard}
 use Rattle.state_view.specs.Changed as word
 use Rattle.state_places.proofs.Stores as Stores
@@ -22,7 +22,7 @@ stored-peer : (st names ids run : List ℕ) (totals : List ℤ) (timers rdi time
 stored-peer st names ids run totals timers rdi timers′ rdi′ slot hold flag t g h = rw (t, g, h)
 
 stored-other : (st names ids run : List ℕ) (totals : List ℤ) (timers rdi timers′ rdi′ : List ℕ) (slot hold flag : ℕ)
-    → timers′ ≡ set timers slot hold → rdi′ ≡ set rdi slot flag → hold ≡ ownMost (viewOf st names ids timers rdi run totals) → length run ≡ 15
+    → timers′ ≡ set timers slot hold → rdi′ ≡ set rdi slot flag → hold ≡ ownMost (viewOf st names ids timers rdi run totals) → length run ≡ runWords
     → viewOf st names ids timers′ rdi′ (set run 3 hold) totals
     ≡ put word.unexpected-period (ownMost (viewOf st names ids timers rdi run totals)) (heard slot (ownMost (viewOf st names ids timers rdi run totals)) flag (viewOf st names ids timers rdi run totals))
 stored-other st names ids run totals timers rdi timers′ rdi′ slot hold flag t g h w =
@@ -91,7 +91,7 @@ returns : tie.Need-returns
 unfolding signalled
 returns c = let a = c .before .before .before .before .before .before .before .args in
     let s = viewOf (now (a .set)) (now (a .names)) (now (a .ids)) (now (a .timers)) (now (a .rdi)) (now (a .run)) (now (a .totals)) in
-    let w : length (now (a .run)) ≡ 15 = search needs in
+    let w : length (now (a .run)) ≡ runWords = search needs in
     let z : length (now (a .totals)) ≡ 2 = search needs in (
       Stores.word (now (a .set)) (now (a .names)) (now (a .ids)) (now (a .timers)) (now (a .rdi)) (now (a .totals)) (c .before .before .hold-of .result) word.mismerge (now (a .run)) w
           ∙ ap (λ (h : ℕ). put word.mismerge h s) (c .before .before .hold-of .ensures)
@@ -103,7 +103,7 @@ returns-2 : tie.Need-returns-2
 unfolding signalled
 returns-2 c = let a = c .before .before .before .before .before .before .before .args in
     let s = viewOf (now (a .set)) (now (a .names)) (now (a .ids)) (now (a .timers)) (now (a .rdi)) (now (a .run)) (now (a .totals)) in
-    let w : length (now (a .run)) ≡ 15 = search needs in
+    let w : length (now (a .run)) ≡ runWords = search needs in
     let z : length (now (a .totals)) ≡ 2 = search needs in (
       Stores.word (now (a .set)) (now (a .names)) (now (a .ids)) (now (a .timers)) (now (a .rdi)) (now (a .totals)) (c .before .before .hold-of .result) word.unexpected-mep (now (a .run)) w
           ∙ ap (λ (h : ℕ). put word.unexpected-mep h s) (c .before .before .hold-of .ensures)
@@ -115,7 +115,7 @@ returns-3 : tie.Need-returns-3
 unfolding signalled
 returns-3 c = let a = c .before .before .before .before .before .before .before .before .before .before .before .before .args in
     let s = viewOf (now (a .set)) (now (a .names)) (now (a .ids)) (now (a .timers)) (now (a .rdi)) (now (a .run)) (now (a .totals)) in
-    let w : length (now (a .run)) ≡ 15 = search needs in
+    let w : length (now (a .run)) ≡ runWords = search needs in
     let z : length (now (a .totals)) ≡ 2 = search needs in
     (stored-peer (now (a .set)) (now (a .names)) (now (a .ids)) (now (a .run)) (now (a .totals)) (now (a .timers)) (now (a .rdi)) _ _ (c .before .before .before .before .before .signal .given .0 .0) (c .before .before .before .before .before .before .before .hold-of .result) (c .before .before .before .before .before .signal .given .0 .1 .0) (c .before .before .put-slot .ensures) (c .put-slot2 .ensures) (c .before .before .before .before .before .before .before .hold-of .ensures) ∙ sym (ap (signalled s) (c .before .before .before .before .before .signal .given .1)), record { words = w; both = z })
 
@@ -123,7 +123,7 @@ returns-4 : tie.Need-returns-4
 unfolding signalled
 returns-4 c = let a = c .before .before .before .before .before .before .before .before .before .before .before .before .args in
     let s = viewOf (now (a .set)) (now (a .names)) (now (a .ids)) (now (a .timers)) (now (a .rdi)) (now (a .run)) (now (a .totals)) in
-    let w : length (now (a .run)) ≡ 15 = search needs in
+    let w : length (now (a .run)) ≡ runWords = search needs in
     let z : length (now (a .totals)) ≡ 2 = search needs in (
       stored-other (now (a .set)) (now (a .names)) (now (a .ids)) (now (a .run)) (now (a .totals)) (now (a .timers)) (now (a .rdi)) _ _ (c .before .before .before .before .before .signal2 .given .0 .0) (c .before .before .before .before .before .before .before .hold-of .result) (c .before .before .before .before .before .signal2 .given .0 .1 .0) (c .before .before .put-slot3 .ensures) (c .put-slot4 .ensures) (c .before .before .before .before .before .before .before .hold-of .ensures) w
           ∙ sym (ap (signalled s) (c .before .before .before .before .before .signal2 .given .1)),
@@ -134,7 +134,7 @@ returns-5 : tie.Need-returns-5
 unfolding signalled
 returns-5 c = let a = c .before .before .before .before .before .before .before .before .before .args in
     let s = viewOf (now (a .set)) (now (a .names)) (now (a .ids)) (now (a .timers)) (now (a .rdi)) (now (a .run)) (now (a .totals)) in
-    let w : length (now (a .run)) ≡ 15 = search needs in
+    let w : length (now (a .run)) ≡ runWords = search needs in
     let z : length (now (a .totals)) ≡ 2 = search needs in (
       Stores.word (now (a .set)) (now (a .names)) (now (a .ids)) (now (a .timers)) (now (a .rdi)) (now (a .totals)) (c .hold-of2 .result) word.ais (now (a .run)) w
           ∙ ap (λ (h : ℕ). put word.ais h s) (c .hold-of2 .ensures)
@@ -146,7 +146,7 @@ returns-6 : tie.Need-returns-6
 unfolding signalled
 returns-6 c = let a = c .before .before .before .before .before .before .before .before .before .args in
     let s = viewOf (now (a .set)) (now (a .names)) (now (a .ids)) (now (a .timers)) (now (a .rdi)) (now (a .run)) (now (a .totals)) in
-    let w : length (now (a .run)) ≡ 15 = search needs in
+    let w : length (now (a .run)) ≡ runWords = search needs in
     let z : length (now (a .totals)) ≡ 2 = search needs in (
       Stores.word (now (a .set)) (now (a .names)) (now (a .ids)) (now (a .timers)) (now (a .rdi)) (now (a .totals)) (c .hold-of3 .result) word.lck (now (a .run)) w
           ∙ ap (λ (h : ℕ). put word.lck h s) (c .hold-of3 .ensures)

@@ -5,7 +5,7 @@ use Prim.Native.Nat.{ℕ}
 use denote.Ref.{now}
 use lib.ListN.{length, replicate}
 use Rattle.base_laws.specs.Lists.{laid}
-use Rattle.state_settings.specs.Settings.{slots, settingsOf, Shaped}
+use Rattle.state_settings.specs.Settings.{slots, settingsOf, Shaped, nameOctets}
 use Rattle.state_view.specs.State.{lying}
 use Rattle.state_settings.proofs.Shape.{lying-shaped}
 use Rattle.replay_session.specs.Session.{sessionOctets}
@@ -54,7 +54,7 @@ returns c =
     let o = c .before .before .before .before .before .before .before .before .before .before .before .before .session-of in
     let s = c .before .before .before .before .before .before .before .before .before .before .before .session-octets in
     let w = c .before .before .before .before .before .write-running in
-    let names : length (now (a .names)) ≡ 60 = c .before .before .before .before .before .before .before .before .before .before .before .before .before .before .before .before .before .-names .given .0 in
+    let names : length (now (a .names)) ≡ nameOctets = c .before .before .before .before .before .before .before .before .before .before .before .before .before .before .before .before .before .-names .given .0 in
     let ids : length (now (a .ids)) ≡ slots = c .before .before .before .before .before .before .before .before .before .before .before .before .before .before .before .before .-slots .given .0 in
     let timers : length (now (a .timers)) ≡ slots = c .before .before .before .before .before .before .before .before .before .before .before .before .before .before .before .slot-timers .given .0 in
     let rdi : length (now (a .rdi)) ≡ slots = c .before .before .before .before .before .before .before .before .before .before .before .before .before .before .slot-rdi .given .0 in

@@ -3,6 +3,7 @@ use mathlib.Core.Path.{_≡_}
 use lib.ListN.{length, length-set}
 use mir.Syntax.{w64}
 use mir.Val.{toZ, ofZ}
+use Rattle.state_view.specs.State.{runWords, lossTotals}
 use Rattle.state_places.proofs.Stores as Stores
 use borrow.Author.Needs.{needs}
 use Rattle.state_places.proofs.put_session.Statement.{statement}
@@ -36,11 +37,11 @@ returns : tie.Need-returns
 returns c =
     let o = c .before .before .before .before .before .before .before in
     let a = o .args in
-    let w : length (a .run .now) ≡ 15 = search needs in
-    let z : length (a .totals .now) ≡ 2 = search needs in
+    let w : length (a .run .now) ≡ runWords = search needs in
+    let z : length (a .totals .now) ≡ lossTotals = search needs in
     let n : toZ w64 (ofZ w64 (a .session .near)) ≡ a .session .near = search needs in
     let f : toZ w64 (ofZ w64 (a .session .far)) ≡ a .session .far = search needs in (
-      rw (n, f) (Stores.session (a .set .now) (a .names .now) (a .ids .now) (a .timers .now) (a .rdi .now) (a .totals .now) (a .session) (a .run .now) w z),
+      rw (n, f) (Stores.session (a .set .now) (a .names .now) (a .ids .now) (a .timers .now) (a .rdi .now) (a .session) (a .run .now) (a .totals .now) w z),
       record { words = simp length-set w; both = simp length-set z },
     )
 

@@ -10,22 +10,27 @@ use lib.ListN.{length, getD, take, drop}
 use lib.Seq.{length-take-le}
 use Rattle.base_laws.specs.Lists.{part, same}
 use Rattle.base_laws.proofs.Lists.{getD-part}
-use Rattle.state_settings.specs.Settings.{addressAt}
+use Rattle.state_settings.specs.Settings.{nameOctets, addressOctets, ownFrom, losspeerFrom, ownNamed, losspeerNamed}
 use Rattle.state_settings.specs.Valid.{addressesGood}
 use borrow.Author.Needs.{needs}
 use Rattle.state_settings.proofs.addresses_good.Statement.{statement}
 use Rattle.state_settings.proofs.addresses_good.Tie as tie
 
 -- the first octet of each address stands where the code looks
-addresses : (f : List ℕ) (r : Bool) → r ≡ same (take 6 f) (take 6 (drop 6 f))
-    → (eqb (getD f 0 0 % 2) 0 && eqb (getD f 6 0 % 2) 0 && not r) ≡ addressesGood (addressAt 0 f) (addressAt 6 f)
+addresses : (f : List ℕ) (r : Bool) → r ≡ same (take addressOctets f) (take addressOctets (drop losspeerFrom f))
+    → (eqb (getD f ownFrom 0 % 2) 0 && eqb (getD f losspeerFrom 0 % 2) 0 && not r) ≡ addressesGood (ownNamed f) (losspeerNamed f)
 unfolding part
-addresses f r e = rw (e, sym (getD-part 0 6 f 0 0 (omega arith)), sym (getD-part 6 6 f 0 0 (omega arith)))
+addresses f r e =
+    rw (
+      e,
+      sym (getD-part ownFrom addressOctets f 0 0 (omega arith)),
+      sym (getD-part losspeerFrom addressOctets f 0 0 (omega arith)),
+    )
 
 slice-aggregate-same-octets : tie.Need-slice-aggregate-same-octets
 slice-aggregate-same-octets c = let f = c .before .before .args .names .now in
-    let h : length f ≡ 60 = search needs in
-    sym (length-take-le 6 f (omega arith))
+    let h : length f ≡ nameOctets = search needs in
+    sym (length-take-le addressOctets f (omega arith))
 
 sub-same-octets : tie.Need-sub-same-octets
 sub-same-octets c = search needs

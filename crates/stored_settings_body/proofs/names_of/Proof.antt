@@ -3,7 +3,7 @@ use mathlib.Core.Path.{refl}
 use denote.Ref.{now}
 use lib.ListN.{replicate}
 use Rattle.base_laws.specs.Lists.{part}
-use Rattle.state_settings.specs.Settings.{slots}
+use Rattle.state_settings.specs.Settings.{slots, nameOctets}
 use Rattle.stored_settings_body.proofs.Laid.{names-laid}
 use borrow.Author.Needs.{needs}
 use Rattle.stored_settings_body.proofs.names_of.Statement.{statement}
@@ -58,7 +58,7 @@ returns : tie.Need-returns
 unfolding part
 returns c =
     let s = c .before .before .before .before .before .before .before .before .before .before .before .before .before in
-    names-laid slots (now (s .args .body)) (replicate 60 0) (s .pre) refl
+    names-laid slots (now (s .args .body)) (replicate nameOctets 0) (s .pre) refl
     (c .before .before .before .before .before .before .before .before .before .copy-octets .ensures)
     (c .before .before .before .before .before .copy-octets2 .ensures)
     (c .before .copy-octets3 .ensures)

@@ -2,7 +2,7 @@
 use mathlib.Core.Path.{_≡_, refl}
 use denote.Ref.{now}
 use lib.ListN.{length, replicate}
-use Rattle.state_settings.specs.Settings.{slots, settingsOf, Shaped}
+use Rattle.state_settings.specs.Settings.{slots, settingsOf, Shaped, nameOctets}
 use Rattle.stored_settings_body.specs.Body.{fieldsBefore}
 use Rattle.state_settings.proofs.Shape.{lying-shaped}
 use Rattle.stored_settings_body.proofs.Laid.{body-laid}
@@ -26,7 +26,7 @@ returns : tie.Need-returns
 unfolding fieldsBefore
 returns c =
     let a = c .before .before .before .before .before .before .before .before .args in
-    let hn : length (now (a .names)) ≡ 60 = search needs in
+    let hn : length (now (a .names)) ≡ nameOctets = search needs in
     let hi : length (now (a .ids)) ≡ slots = search needs in
     let s = settingsOf (now (a .set)) (now (a .names)) (now (a .ids)) in
     let w : Shaped slots s = rw hi at (lying-shaped (now (a .set)) (now (a .names)) (now (a .ids)) hn) in

@@ -4,7 +4,7 @@ use mathlib.Core.List.{[]}
 use denote.Ref.{now}
 use lib.ListN.{length}
 use Rattle.base_laws.specs.Lists.{part}
-use Rattle.state_settings.specs.Settings.{settingsOf}
+use Rattle.state_settings.specs.Settings.{settingsOf, nameOctets}
 use Rattle.state_settings.proofs.Shape.{lying-shaped}
 use Rattle.stored_settings_body.proofs.Laid.{fields-laid}
 use borrow.Author.Needs.{needs}
@@ -85,7 +85,7 @@ returns c = let p7 = c .before .before in
     let p1 = p2 .before .before .before .before .before in
     let s = p1 .before .before .before .before .before in
     let a = s .args in
-    let h : length (now (a .names)) ≡ 60 = p1 .before .before .before .all .given .0 in
+    let h : length (now (a .names)) ≡ nameOctets = p1 .before .before .before .all .given .0 in
     fields-laid 0 (settingsOf (now (a .set)) (now (a .names)) []) (now (a .into)) (lying-shaped (now (a .set)) (now (a .names)) [] h) (s .pre)
     (p1 .write-little .ensures)
     (p2 .write-little2 .ensures)

@@ -7,7 +7,7 @@ use denote.Ref.{now}
 use lib.ListN.{length, getD, take}
 use lib.Seq.{take-all}
 use Rattle.base_laws.specs.Lists.{laid}
-use Rattle.base_octets.specs.Numbers.{littleEndian, inOctets}
+use Rattle.base_numbers.specs.Numbers.{littleEndian, inOctets}
 use Rattle.stored_settings_body.specs.Body.{idsOctets}
 use Rattle.stored_settings_body.proofs.Ids.{write-start, write-turn}
 use borrow.Author.Needs.{needs}

@@ -1,0 +1,4 @@
+pub mod Spelled
+pub mod Laws
+pub mod Turns
+pub mod One

@@ -1,0 +1,23 @@
+-- `call_setting::tell` meets its contract, case by case.
+use mathlib.Core.Path.{sym, ap}
+use Rattle.call_setting.specs.Told.{told}
+use borrow.Author.Needs.{needs}
+use Rattle.call_setting.proofs.tell.Statement.{statement}
+use Rattle.call_setting.proofs.tell.Tie as tie
+
+enum-told : tie.Need-enum-told
+enum-told c = search needs
+
+enum-told-2 : tie.Need-enum-told-2
+enum-told-2 c = search needs
+
+returns : tie.Need-returns
+unfolding told
+returns c = sym (ap told (c .enum-told .given .1))
+
+returns-2 : tie.Need-returns-2
+unfolding told
+returns-2 c = sym (ap told (c .enum-told2 .given .1))
+
+pub tell-spec : {M : Type 1} → statement M
+tell-spec = tie.close (tie.spec enum-told enum-told-2 returns returns-2)

@@ -1,1 +1,0 @@
-// The paper's lines on the reader of TLVs, as a relation, and that our reader follows them: statements and proofs, no code.

@@ -1,5 +1,5 @@
--- The paper's numbers for each answer of a tick, of send LMM and of send DMM: the refusal, or 0, and the length of what was written. Definitions
--- only.
+-- The paper's numbers for each answer of a tick, of send LMM and of send DMM: the refusal, or 0, and the length of what was written.
+-- Definitions only.
 use Prim.Native.Nat.{ℕ}
 use Rattle.message_parts.specs.declared.parts.WrittenTold.{WrittenTold}
 use Rattle.message_parts.specs.Buffer.{numbers}

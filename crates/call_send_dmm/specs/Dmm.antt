@@ -62,7 +62,8 @@ pub record SendsDmm : Type 0 where
   -- a refused call leaves the buffer as it was; what is sent is the DMM, and octets behind it stay
   pub refused : (s : State) (stamp : Stamp) (buffer : List ℕ) → (dmmTold (sendDmm s stamp buffer .answer) .refusal ≡ 0 → ⊥) → sendDmm s stamp buffer .buffer ≡ buffer
   pub writes : (s : State) (stamp : Stamp) (buffer : List ℕ)
-      → dmmTold (sendDmm s stamp buffer .answer) .refusal ≡ 0 → sendDmm s stamp buffer ≡ ended (Sent dmmLength) s (laid 0 (dmmOf s stamp) buffer)
+      → dmmTold (sendDmm s stamp buffer .answer) .refusal ≡ 0
+      → sendDmm s stamp buffer ≡ ended (Sent dmmLength) s (laid 0 (dmmOf s stamp) buffer)
   -- whatever is answered, the state stays as it was
   pub keeps : (s : State) (stamp : Stamp) (buffer : List ℕ) → sendDmm s stamp buffer .state ≡ s
   -- it is 51 octets long, an address being 6

@@ -31,7 +31,8 @@ pub fn send_dmm(
     stamp: Stamp,
     out: &mut [u8],
 ) -> DmmAnswer
-    ensures { λ r. ⌜ (ended r (before set names ids timers rdi run totals) (now (out .exit)) ≡ sendDmm (before set names ids timers rdi run totals) stamp (now (out .entry)))
+    ensures { λ r. ⌜ (ended r (before set names ids timers rdi run totals) (now (out .exit)) ≡
+        sendDmm (before set names ids timers rdi run totals) stamp (now (out .entry)))
         × (dmmTold r ≡ dmmNumbers (before set names ids timers rdi run totals) stamp (now (out .entry))) ⌝ }
     ensures { λ _. ⌜ Wire stamp ⌝ }
 {

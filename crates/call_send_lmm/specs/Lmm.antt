@@ -52,7 +52,8 @@ pub record SendsLmm : Type 0 where
   pub sends : (s : State) (buffer : List ℕ) → (sendLmm s buffer .answer ≡ Sent lmmLength) ↔ (WellFormed s × (31 ≤ length buffer))
   -- a refused call leaves the buffer as it was; what is sent is the LMM, and octets behind it stay
   pub refused : (s : State) (buffer : List ℕ) → (lmmTold (sendLmm s buffer .answer) .refusal ≡ 0 → ⊥) → sendLmm s buffer .buffer ≡ buffer
-  pub writes : (s : State) (buffer : List ℕ) → lmmTold (sendLmm s buffer .answer) .refusal ≡ 0 → sendLmm s buffer ≡ ended (Sent lmmLength) s (laid 0 (lmmOf s) buffer)
+  pub writes : (s : State) (buffer : List ℕ) → lmmTold (sendLmm s buffer .answer) .refusal ≡ 0
+      → sendLmm s buffer ≡ ended (Sent lmmLength) s (laid 0 (lmmOf s) buffer)
   -- whatever is answered, the state stays as it was
   pub keeps : (s : State) (buffer : List ℕ) → sendLmm s buffer .state ≡ s
   -- it is 31 octets long, an address being 6

@@ -28,7 +28,8 @@ pub fn send_lmm(
     totals: &Totals,
     out: &mut [u8],
 ) -> LmmAnswer
-    ensures { λ r. ⌜ (ended r (before set names ids timers rdi run totals) (now (out .exit)) ≡ sendLmm (before set names ids timers rdi run totals) (now (out .entry)))
+    ensures { λ r. ⌜ (ended r (before set names ids timers rdi run totals) (now (out .exit)) ≡
+        sendLmm (before set names ids timers rdi run totals) (now (out .entry)))
         × (lmmTold r ≡ lmmNumbers (before set names ids timers rdi run totals) (now (out .entry))) ⌝ }
 {
     if !is_well_formed(set, names, ids, timers, rdi, run, totals) {

@@ -68,7 +68,8 @@ pub record Ticks : Type 0 where
   pub refuses-2 : (s : State) (buffer : List ℕ) → (tickOf s buffer .answer ≡ NotWellFormed) ↔ (WellFormed s → ⊥)
   pub refuses-3 : (s : State) (buffer : List ℕ) → (tickOf s buffer .answer ≡ NoRoom) ↔ (WellFormed s × (s .next ≡ 1) × (length buffer < 89))
   pub quiet : (s : State) (buffer : List ℕ) → (tickOf s buffer .answer ≡ Quiet) ↔ (WellFormed s × (1 < s .next))
-  pub sends : (s : State) (buffer : List ℕ) → (tickOf s buffer .answer ≡ Sent ccmLength) ↔ (WellFormed s × (s .next ≡ 1) × (89 ≤ length buffer))
+  pub sends : (s : State) (buffer : List ℕ)
+      → (tickOf s buffer .answer ≡ Sent ccmLength) ↔ (WellFormed s × (s .next ≡ 1) × (89 ≤ length buffer))
   -- a refused tick leaves state and buffer as they were, whatever they held
   pub refused : (s : State) (buffer : List ℕ) → (tickTold (tickOf s buffer .answer) .refusal ≡ 0 → ⊥) → (tickOf s buffer .state ≡ s) × (tickOf s buffer .buffer ≡ buffer)
   -- a buffer of 89 octets is never refused by a well-formed state
@@ -76,7 +77,8 @@ pub record Ticks : Type 0 where
   -- a tick that is not refused passes
   pub passes : (s : State) (buffer : List ℕ) → tickTold (tickOf s buffer .answer) .refusal ≡ 0 → tickOf s buffer .state ≡ tickedOf s
   -- what is sent is the CCM of the state after, and octets behind it stay; where none is sent the buffer stays
-  pub writes : (s : State) (buffer : List ℕ) → tickOf s buffer .answer ≡ Sent ccmLength → tickOf s buffer .buffer ≡ laid 0 (ccmOf (tickedOf s)) buffer
+  pub writes : (s : State) (buffer : List ℕ) → tickOf s buffer .answer ≡ Sent ccmLength
+      → tickOf s buffer .buffer ≡ laid 0 (ccmOf (tickedOf s)) buffer
   pub writes-none : (s : State) (buffer : List ℕ) → (tickOf s buffer .answer ≡ Sent ccmLength → ⊥) → tickOf s buffer .buffer ≡ buffer
   -- no tick touches settings, peers' RDI, service counts and session
   pub settings-stay : (s : State) (buffer : List ℕ) → tickOf s buffer .state .settings ≡ s .settings

@@ -31,7 +31,8 @@ pub fn tick(
     totals: &Totals,
     out: &mut [u8],
 ) -> TickAnswer
-    ensures { λ r. ⌜ (ended r (afterTick set names ids timers rdi run totals) (now (out .exit)) ≡ tickOf (before set names ids timers rdi run totals) (now (out .entry)))
+    ensures { λ r. ⌜ (ended r (afterTick set names ids timers rdi run totals) (now (out .exit)) ≡
+        tickOf (before set names ids timers rdi run totals) (now (out .entry)))
         × (tickTold r ≡ numbersOf (before set names ids timers rdi run totals) (now (out .entry))) ⌝ }
     ensures { λ _. ⌜ Whole (now (run .exit)) (now (totals .entry)) ⌝ }
 {

@@ -6,7 +6,7 @@ use mathlib.Core.List.{List}
 use borrow.Author.Tests.{lt-ltb, le-ltb, le-leb, lt-leb, eq-eqb, ne-eqb}
 use lib.ListN.{length}
 use Rattle.base_laws.specs.Tests.{choose}
-use Rattle.frame_opcodes.specs.Opcodes.{ruleOf, known}
+use Rattle.frame_opcodes.specs.Opcodes.{ruleOf}
 use Rattle.frame_reader_answer.specs.declared.Bad.the-variants.{Length, Short, Opcode, Offset}
 use Rattle.frame_judge.specs.declared.Head.the-variants as head
 use Rattle.frame_head.specs.Head.{etherTypeOf, pduOf, opcodeOf, offsetOf, startOf}
@@ -18,11 +18,11 @@ module _ (p : List ℕ) where
   pdu-short h = rw (lt-ltb (length p) 4 h)
 
   module _ (long : 4 ≤ length p) where
-    pub pdu-opcode : known (ruleOf (opcodeOf p) .handler) ≡ false → judgePdu p ≡ head.Bad Opcode
+    pub pdu-opcode : ruleOf (opcodeOf p) .known ≡ false → judgePdu p ≡ head.Bad Opcode
     unfolding judgePdu choose
     pdu-opcode k = rw (le-ltb (length p) 4 long, k)
 
-    module _ (k : known (ruleOf (opcodeOf p) .handler) ≡ true) where
+    module _ (k : ruleOf (opcodeOf p) .known ≡ true) where
       pub pdu-offset : offsetOf p < ruleOf (opcodeOf p) .least → judgePdu p ≡ head.Bad Offset
       unfolding judgePdu choose
       pdu-offset h = rw (le-ltb (length p) 4 long, k, lt-ltb (offsetOf p) (ruleOf (opcodeOf p) .least) h)

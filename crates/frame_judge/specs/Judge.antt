@@ -6,7 +6,7 @@ use mathlib.Core.Bool.{not}
 use lib.Dec.{ltb}
 use lib.ListN.{length}
 use Rattle.base_laws.specs.Tests.{choose}
-use Rattle.frame_opcodes.specs.Opcodes.{ruleOf, known}
+use Rattle.frame_opcodes.specs.Opcodes.{ruleOf}
 use Rattle.frame_reader_answer.specs.declared.Bad.the-variants.{Length, Short, Opcode, Offset}
 use Rattle.frame_judge.specs.declared.Head.{Head}
 use Rattle.frame_judge.specs.declared.Head.the-variants as head
@@ -17,7 +17,7 @@ unfoldable pub judgePdu : List ℕ → Head
 judgePdu p =
     choose (
     (ltb (length p) 4, head.Bad Short)
-    ∷ (not (known (ruleOf (opcodeOf p) .handler)), head.Bad Opcode)
+    ∷ (not (ruleOf (opcodeOf p) .known), head.Bad Opcode)
     ∷ (ltb (offsetOf p) (ruleOf (opcodeOf p) .least), head.Bad Offset)
     ∷ [])
     (head.Tlvs (startOf p))

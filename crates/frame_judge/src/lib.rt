@@ -5,7 +5,6 @@ ghost use Rattle.frame_judge.specs.Judge.{judgePdu, judge};
 use base_numbers::read_big;
 use frame_head::HEAD_LENGTH;
 use frame_head::LONGEST;
-use frame_opcodes::is_known;
 use frame_opcodes::rule_of;
 use frame_reader_answer::Bad;
 
@@ -23,8 +22,7 @@ fn judge_pdu(pdu: &[u8]) -> Head
         return Head::Bad(Bad::Short);
     }
     let rule = rule_of(pdu[1]);
-    let handler = rule.handler;
-    if !is_known(handler) {
+    if !rule.known {
         return Head::Bad(Bad::Opcode);
     }
     let least = rule.least;

@@ -14,7 +14,7 @@ use Rattle.base_laws.specs.Tests.{choose}
 use Rattle.base_laws.specs.Lists.{part}
 use Rattle.base_laws.proofs.Lists.{part-drop}
 use Rattle.base_laws.proofs.Tests.{known as if-known, both-true}
-use Rattle.frame_opcodes.specs.Opcodes.{ruleOf, known}
+use Rattle.frame_opcodes.specs.Opcodes.{ruleOf}
 use Rattle.frame_reader_answer.specs.declared.Bad.{Bad}
 use Rattle.frame_tlvs.specs.declared.Place.{Place}
 use Rattle.frame_tlvs.specs.declared.Place.the-variants.{End, Found, Cut}
@@ -62,7 +62,7 @@ module _ (f : List ℕ) (kind : ℕ) where
       let a = neither (not (lengthGood f)) _ (sym (bad-is f kind) ∙ e) in
       let b = neither (not (isOam f)) _ (a .1) in
       let c = neither (ltb (length p) 4) _ (b .1) in
-      let d = neither (not (known (ruleOf (opcodeOf p) .handler))) _ (c .1) in
+      let d = neither (not (ruleOf (opcodeOf p) .known)) _ (c .1) in
       let o = neither (ltb (offsetOf p) (ruleOf (opcodeOf p) .least)) _ (d .1) in
       let n = both-true (leb 14 (length f)) (leb (length f) 1514) .0 (not-false (lengthGood f) (a .0)) in
       let before : Headed f = record {
@@ -70,7 +70,7 @@ module _ (f : List ℕ) (kind : ℕ) where
         longest = leb-true (length f) 1514 (n .1);
         oam = eqb-true (etherTypeOf f) 0x8902 (not-false (isOam f) (b .0));
         head = ltb-false (length p) 4 (c .0);
-        opcode = not-false (known (ruleOf (opcodeOf p) .handler)) (d .0);
+        opcode = not-false (ruleOf (opcodeOf p) .known) (d .0);
         offset = ltb-false (offsetOf p) (ruleOf (opcodeOf p) .least) (o .0);
       } in
       record { headed = before; ends = o .1 }

@@ -1,18 +1,14 @@
 -- The statements of specs/Told.antt: what an answer on a message tells is the one chain of numbers. Assumes nothing.
-use Prim.Native.Nat.{ℕ, _≤_}
+use Prim.Native.Nat.{ℕ}
 use mathlib.Core.Path.{_≡_, refl, sym, ap, _∙_}
-use mathlib.Core.Bool.{Bool, true, false, _||_, not, false≢true}
+use mathlib.Core.Bool.{Bool, true, false, not}
 use mathlib.Core.List.{List, [], _∷_}
 use mathlib.Core.Logic.{⊎-elim}
-use native.Mathlib.Omega.{arith}
-use lib.Dec.{ltb, eqb}
-use borrow.Author.Tests.{eqb-true, ltb-true, ltb-false, not-true}
+use lib.Dec.{eqb}
+use borrow.Author.Tests.{not-true}
 use Rattle.base_laws.specs.Tests.{choose}
-use Rattle.base_laws.specs.Lists.{everyBelow}
-use Rattle.base_laws.proofs.Lists.{below-is}
 use Rattle.base_laws.proofs.Tests.{known as if-known}
-use Rattle.frame_opcodes.specs.Opcodes.{rule, ruleOf, known}
-use Rattle.frame_opcodes.proofs.Rules.{rule-none}
+use Rattle.frame_opcodes.specs.Opcodes.{ruleOf}
 use Rattle.frame_reader_answer.specs.declared.Bad.the-variants.{Length, Short, Opcode, Offset, CutOff}
 use Rattle.frame_reader_answer.specs.declared.TlvAnswer.{TlvAnswer}
 use Rattle.frame_reader_answer.specs.declared.TlvAnswer.the-variants as tlv
@@ -26,56 +22,35 @@ use Rattle.frame_message_answer.specs.declared.MessageAnswer.{MessageAnswer}
 use Rattle.frame_message_answer.specs.declared.MessageTold.{MessageTold}
 use Rattle.frame_message.specs.Good.{Good, isBad}
 use Rattle.frame_message.specs.Message.{periodCode, codeGood, judgedOf, unlessBad, messageOf}
-use Rattle.frame_message_answer.specs.Told.{numbers, opcodeFor, told}
+use Rattle.frame_message_answer.specs.Told.{numbers, told}
 use Rattle.frame_message.specs.Told.{isGood, behind, numbersOf, goodOpcode, MessageNumbers}
 use Rattle.frame_message.proofs.Goods.{good-frames}
-
--- ── the table and the opcodes of handlers ──
-
--- an opcode is not in the table, or its handler leads back to it
-leads-back : ℕ → Bool
-leads-back op = not (known (ruleOf op .handler)) || eqb (opcodeFor (ruleOf op .handler)) op
-
-led : (a b : Bool) → (not a || b) ≡ true → a ≡ true → b ≡ true
-led true b e h = e
-led false b e h = absurd (false≢true h)
-
-pub back : (op : ℕ) → known (ruleOf op .handler) ≡ true → opcodeFor (ruleOf op .handler) ≡ op
-unfolding leads-back everyBelow ruleOf choose
-back op h =
-    ⊎-elim
-    (λ (t : ltb op 48 ≡ true). eqb-true (opcodeFor (ruleOf op .handler)) op (led _ _ (below-is leads-back 48 refl op (ltb-true op 48 t)) h))
-    (λ (t : ltb op 48 ≡ false).
-    let k : 48 ≤ op = ltb-false op 48 t in
-    let n = rule-none op (λ e. omega arith) (λ e. omega arith) (λ e. omega arith) (λ e. omega arith) (λ e. omega arith) (λ e. omega arith) (λ e. omega arith) (λ e. omega arith) (λ e. omega arith) in
-    absurd (false≢true (sym (ap (λ r. known (r .handler)) n) ∙ h)))
-    (if-known (ltb op 48))
 
 -- ── what is told ──
 
 -- of a message that the reader lets through
-judged-told : (op flags : ℕ) → known (ruleOf op .handler) ≡ true → told (judgedOf op flags) ≡ behind (reader-told tlv.NoSuch) op flags
+judged-told : (op flags : ℕ) → told (judgedOf op flags) ≡ behind (reader-told tlv.NoSuch) op flags
 unfolding told judgedOf reader-told choose
-judged-told op flags h =
+judged-told op flags =
     ⊎-elim
-    (λ (t : codeGood (ruleOf op .handler) (periodCode flags) ≡ true). rw t (ap (numbers 0 0) (back op h)))
-    (λ (t : codeGood (ruleOf op .handler) (periodCode flags) ≡ false). rw t)
-    (if-known (codeGood (ruleOf op .handler) (periodCode flags)))
+    (λ (t : codeGood (ruleOf op) (periodCode flags) ≡ true). rw t)
+    (λ (t : codeGood (ruleOf op) (periodCode flags) ≡ false). rw t)
+    (if-known (codeGood (ruleOf op) (periodCode flags)))
 
-tells : (a : TlvAnswer) (op flags : ℕ) → (isBad a ≡ false → known (ruleOf op .handler) ≡ true) → told (unlessBad a (judgedOf op flags)) ≡ behind (reader-told a) op flags
+tells : (a : TlvAnswer) (op flags : ℕ) → told (unlessBad a (judgedOf op flags)) ≡ behind (reader-told a) op flags
 unfolding told reader-told badOf choose
-tells tlv.NoSuch op flags h = judged-told op flags (h refl)
-tells tlv.Value op flags h = judged-told op flags (h refl)
-tells (tlv.Bad Length) op flags h = refl
-tells (tlv.Bad Short) op flags h = refl
-tells (tlv.Bad Opcode) op flags h = refl
-tells (tlv.Bad Offset) op flags h = refl
-tells (tlv.Bad CutOff) op flags h = refl
+tells tlv.NoSuch op flags = judged-told op flags
+tells tlv.Value op flags = judged-told op flags
+tells (tlv.Bad Length) op flags = refl
+tells (tlv.Bad Short) op flags = refl
+tells (tlv.Bad Opcode) op flags = refl
+tells (tlv.Bad Offset) op flags = refl
+tells (tlv.Bad CutOff) op flags = refl
 
 pub agree : (f : List ℕ) → told (messageOf f) ≡ numbersOf f
 unfolding messageOf
 agree f =
-    tells (answerOf f 0) (opcodeOf (pduOf f)) (flagsOf (pduOf f)) (λ e. good-frames .read f 0 .0 e .headed .opcode)
+    tells (answerOf f 0) (opcodeOf (pduOf f)) (flagsOf (pduOf f))
     ∙ ap (λ (t : TlvTold). behind t (opcodeOf (pduOf f)) (flagsOf (pduOf f))) (reader-agree f 0)
 
 -- an answer that is the definition's tells the chain's numbers
@@ -113,13 +88,13 @@ first a b x y z e = rw e
 
 module _ (f : List ℕ) where
   code : Bool
-  code = codeGood (ruleOf (opcodeOf (pduOf f)) .handler) (periodCode (flagsOf (pduOf f)))
+  code = codeGood (ruleOf (opcodeOf (pduOf f))) (periodCode (flagsOf (pduOf f)))
 
-  pub opcode : Good f → codeGood (ruleOf (opcodeOf (pduOf f)) .handler) (periodCode (flagsOf (pduOf f))) ≡ true → goodOpcode f ≡ opcodeOf (pduOf f)
+  pub opcode : Good f → codeGood (ruleOf (opcodeOf (pduOf f))) (periodCode (flagsOf (pduOf f))) ≡ true → goodOpcode f ≡ opcodeOf (pduOf f)
   opcode g c = ap (λ (t : MessageTold). t .opcode) (last _ _ _ _ _ (good-is f ∙ ap not (good-frames .read f 0 .1 g)) c)
 
   pub only : (goodOpcode f ≡ 0 → ⊥)
-      → Good f × (goodOpcode f ≡ opcodeOf (pduOf f)) × (codeGood (ruleOf (opcodeOf (pduOf f)) .handler) (periodCode (flagsOf (pduOf f))) ≡ true)
+      → Good f × (goodOpcode f ≡ opcodeOf (pduOf f)) × (codeGood (ruleOf (opcodeOf (pduOf f))) (periodCode (flagsOf (pduOf f))) ≡ true)
   unfolding code
   only n =
       ⊎-elim
@@ -136,4 +111,4 @@ module _ (f : List ℕ) where
       (if-known (isGood (Reader.numbersOf f 0)))
 
 pub message-numbers : MessageNumbers
-message-numbers = record { back = back; agree = agree; opcode = opcode; only = only }
+message-numbers = record { agree = agree; opcode = opcode; only = only }

@@ -9,7 +9,7 @@ use lib.Seq.{drop-at}
 use Rattle.base_laws.specs.Lists.{part}
 use Rattle.base_laws.proofs.Lists.{part-here}
 use Rattle.base_numbers.specs.Numbers.{number, numberLowestFirst, bigEndian}
-use Rattle.frame_opcodes.specs.Opcodes.{ruleOf, known}
+use Rattle.frame_opcodes.specs.Opcodes.{ruleOf}
 use Rattle.frame_head.specs.Head.{etherTypeOf, pduOf, opcodeOf, offsetOf}
 use Rattle.frame_message.specs.Good.{Headed, tlvsOf}
 
@@ -34,7 +34,7 @@ module _ (addresses pdu : List ℕ) (a : length addresses ≡ 12) where
   framed-long = rw length-append (omega arith)
 
 -- nothing before the TLVs is wrong with a known opcode, a large enough offset and not too many octets
-pub headed : (addresses rest : List ℕ) (first op flags offset : ℕ) → length addresses ≡ 12 → known (ruleOf op .handler) ≡ true → ruleOf op .least ≤ offset
+pub headed : (addresses rest : List ℕ) (first op flags offset : ℕ) → length addresses ≡ 12 → ruleOf op .known ≡ true → ruleOf op .least ≤ offset
     → 18 + length rest ≤ 1514 → Headed (framed addresses (first ∷ op ∷ flags ∷ offset ∷ rest))
 headed addresses rest first op flags offset a k o l =
     let pdu : List ℕ = first ∷ op ∷ flags ∷ offset ∷ rest in
@@ -46,6 +46,6 @@ headed addresses rest first op flags offset a k o l =
       longest = omega (arith, n);
       oam = ether-is addresses pdu a;
       head = omega (arith, ap length p);
-      opcode = ap (λ (x : List ℕ). known (ruleOf (opcodeOf x) .handler)) p ∙ k;
+      opcode = ap (λ (x : List ℕ). ruleOf (opcodeOf x) .known) p ∙ k;
       offset = omega (arith, o, ap (λ (x : List ℕ). ruleOf (opcodeOf x) .least) p, ap offsetOf p);
     }

@@ -6,7 +6,7 @@ use mathlib.Core.Bool.{Bool, true, false}
 use mathlib.Core.List.{List}
 use mathlib.Core.Logic.{_↔_}
 use lib.ListN.{length, drop}
-use Rattle.frame_opcodes.specs.Opcodes.{ruleOf, known}
+use Rattle.frame_opcodes.specs.Opcodes.{ruleOf}
 use Rattle.frame_reader_answer.specs.declared.TlvAnswer.{TlvAnswer}
 use Rattle.frame_reader_answer.specs.declared.TlvAnswer.the-variants as answer
 use Rattle.frame_head.specs.Head.{etherTypeOf, pduOf, opcodeOf, offsetOf, startOf}
@@ -20,7 +20,7 @@ pub record Headed (f : List ℕ) : Type 0 where
   pub longest : length f ≤ 1514
   pub oam : etherTypeOf f ≡ 0x8902
   pub head : 4 ≤ length (pduOf f)
-  pub opcode : known (ruleOf (opcodeOf (pduOf f)) .handler) ≡ true
+  pub opcode : ruleOf (opcodeOf (pduOf f)) .known ≡ true
   pub offset : ruleOf (opcodeOf (pduOf f)) .least ≤ offsetOf (pduOf f)
 
 -- and D5: the walk over the TLVs comes to their end

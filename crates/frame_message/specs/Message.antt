@@ -1,11 +1,10 @@
 -- Which message a frame is. The paper, "What is in a PDU": the table; rule 4, D7: a CCM of period code 0, an AIS or LCK of a code other than 4
 -- and 6. Definitions only.
 use Prim.Native.Nat.{ℕ, _%_}
-use mathlib.Core.Bool.{Bool, true, _||_, not, cond}
+use mathlib.Core.Bool.{Bool, _&&_, _||_, not, cond}
 use mathlib.Core.List.{List}
 use lib.Dec.{eqb}
-use Rattle.frame_opcodes.specs.declared.Handler.{Handler}
-use Rattle.frame_opcodes.specs.declared.Handler.the-variants.{Nobody, ReaderOnly, Continuity, Loopback, Alarm, Lock, LossReply, LossRequest, DelayReply, DelayRequest}
+use Rattle.frame_opcodes.specs.declared.Rule.{Rule}
 use Rattle.frame_opcodes.specs.Opcodes.{ruleOf}
 use Rattle.frame_reader_answer.specs.declared.TlvAnswer.{TlvAnswer}
 use Rattle.frame_reader_answer.specs.declared.TlvAnswer.the-variants as tlv
@@ -22,22 +21,13 @@ periodCode flags = flags % 8
 abbrev pub alarmCode : ℕ → Bool
 alarmCode code = eqb code 4 || eqb code 6
 
--- which codes a message may have; those without a period are not asked
-abbrev pub codeGood : Handler → ℕ → Bool
-codeGood Nobody code = true
-codeGood ReaderOnly code = true
-codeGood Continuity code = not (eqb code 0)
-codeGood Loopback code = true
-codeGood Alarm code = alarmCode code
-codeGood Lock code = alarmCode code
-codeGood LossReply code = true
-codeGood LossRequest code = true
-codeGood DelayReply code = true
-codeGood DelayRequest code = true
+-- which codes a message may have, by its row: AIS and LCK 4 or 6, a CCM any but 0; those without a period are not asked
+abbrev pub codeGood : Rule → ℕ → Bool
+codeGood r code = (not (r .alarm) || alarmCode code) && (not (r .period) || not (eqb code 0))
 
--- D7, or who handles it
+-- D7, or which message it is
 unfoldable pub judgedOf : ℕ → ℕ → MessageAnswer
-judgedOf opcode flags = cond (codeGood (ruleOf opcode .handler) (periodCode flags)) (Message (ruleOf opcode .handler)) PeriodCode
+judgedOf opcode flags = cond (codeGood (ruleOf opcode) (periodCode flags)) (Message opcode) PeriodCode
 
 -- the reader's reason, or what is behind it
 abbrev pub unlessBad : TlvAnswer → MessageAnswer → MessageAnswer

@@ -5,12 +5,12 @@ use mathlib.Core.Bool.{Bool, true, _&&_, not}
 use mathlib.Core.List.{List, [], _∷_}
 use lib.Dec.{eqb}
 use Rattle.base_laws.specs.Tests.{choose}
-use Rattle.frame_opcodes.specs.Opcodes.{ruleOf, known}
+use Rattle.frame_opcodes.specs.Opcodes.{ruleOf}
 use Rattle.frame_reader_answer.specs.declared.TlvTold.{TlvTold}
 use Rattle.frame_head.specs.Head.{pduOf, opcodeOf, flagsOf}
 use Rattle.frame_reader.specs.Numbers as Reader
 use Rattle.frame_message_answer.specs.declared.MessageTold.{MessageTold}
-use Rattle.frame_message_answer.specs.Told.{numbers, opcodeFor, told}
+use Rattle.frame_message_answer.specs.Told.{numbers, told}
 use Rattle.frame_message.specs.Good.{Good}
 use Rattle.frame_message.specs.Message.{periodCode, codeGood, messageOf}
 
@@ -23,7 +23,7 @@ abbrev pub behind : TlvTold → ℕ → ℕ → MessageTold
 behind t opcode flags =
     choose (
     (not (isGood t), numbers (t .refusal) (t .drop) 0)
-    ∷ (not (codeGood (ruleOf opcode .handler) (periodCode flags)), numbers 0 7 0)
+    ∷ (not (codeGood (ruleOf opcode) (periodCode flags)), numbers 0 7 0)
     ∷ [])
     (numbers 0 0 opcode)
 
@@ -36,10 +36,8 @@ goodOpcode f = numbersOf f .opcode
 
 -- what is said of every frame, and of every answer
 pub record MessageNumbers : Type 0 where
-  -- the table and the opcodes of handlers agree
-  pub back : (op : ℕ) → known (ruleOf op .handler) ≡ true → opcodeFor (ruleOf op .handler) ≡ op
   pub agree : (f : List ℕ) → told (messageOf f) ≡ numbersOf f
   -- an opcode is told of a good frame with a good period code, and of no other; it is the frame's
-  pub opcode : (f : List ℕ) → Good f → codeGood (ruleOf (opcodeOf (pduOf f)) .handler) (periodCode (flagsOf (pduOf f))) ≡ true → goodOpcode f ≡ opcodeOf (pduOf f)
+  pub opcode : (f : List ℕ) → Good f → codeGood (ruleOf (opcodeOf (pduOf f))) (periodCode (flagsOf (pduOf f))) ≡ true → goodOpcode f ≡ opcodeOf (pduOf f)
   pub only : (f : List ℕ) → (goodOpcode f ≡ 0 → ⊥)
-      → Good f × (goodOpcode f ≡ opcodeOf (pduOf f)) × (codeGood (ruleOf (opcodeOf (pduOf f)) .handler) (periodCode (flagsOf (pduOf f))) ≡ true)
+      → Good f × (goodOpcode f ≡ opcodeOf (pduOf f)) × (codeGood (ruleOf (opcodeOf (pduOf f))) (periodCode (flagsOf (pduOf f))) ≡ true)

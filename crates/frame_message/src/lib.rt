@@ -8,43 +8,30 @@ use base_bits::period_code_of;
 use frame_head::pdu_of;
 use frame_message_answer::MessageAnswer;
 use frame_message_answer::tell;
-use frame_opcodes::Handler;
+use frame_opcodes::Rule;
 use frame_opcodes::rule_of;
 use frame_reader::tlv_answer;
 use frame_reader_answer::TlvAnswer;
 
-// Whether a message may have a period code: a CCM any but 0, AIS and LCK 4 or 6; no other message has one.
-fn code_good(handler: Handler, code: u32) -> bool
-    ensures { λ r. ⌜ r ≡ codeGood handler code ⌝ }
+// Whether a message of this row may have a period code: AIS and LCK 4 or 6, a CCM any but 0; no other message has one.
+fn code_good(rule: Rule, code: u32) -> bool
+    ensures { λ r. ⌜ r ≡ codeGood rule code ⌝ }
 {
-    match handler {
-        Handler::Nobody => true,
-        Handler::ReaderOnly => true,
-        Handler::Continuity => code != 0,
-        Handler::Loopback => true,
-        Handler::Alarm => (code == 4) | (code == 6),
-        Handler::Lock => (code == 4) | (code == 6),
-        Handler::LossReply => true,
-        Handler::LossRequest => true,
-        Handler::DelayReply => true,
-        Handler::DelayRequest => true,
-    }
+    (!rule.alarm | ((code == 4) | (code == 6))) & (!rule.period | (code != 0))
 }
 
 // A message that the reader lets through, by its opcode and flags.
 fn judged(opcode: u8, flags: u8) -> MessageAnswer
     ensures { λ r. ⌜ r ≡ judgedOf opcode flags ⌝ }
 {
-    let rule = rule_of(opcode);
-    let handler = rule.handler;
-    if code_good(handler, period_code_of(flags)) {
-        MessageAnswer::Message(handler)
+    if code_good(rule_of(opcode), period_code_of(flags)) {
+        MessageAnswer::Message(opcode)
     } else {
         MessageAnswer::PeriodCode
     }
 }
 
-// Tells which message a frame is: a reason, D7, or who handles it.
+// Tells which message a frame is: a reason, D7, or its opcode.
 pub fn message_answer(frame: &[u8]) -> MessageAnswer
     ensures { λ r. ⌜ (r ≡ messageOf (now (frame .entry))) × (told r ≡ numbersOf (now (frame .entry))) ⌝ }
 {

@@ -12,14 +12,13 @@ use Rattle.base_laws.specs.Tests.{choose}
 use Rattle.base_laws.specs.Lists.{every, everyBelow, absent}
 use Rattle.base_laws.proofs.Lists.{every-is, absent-is, below-is}
 use Rattle.base_laws.proofs.Tests.{known as if-known}
-use Rattle.frame_opcodes.specs.declared.Handler.the-variants.{Nobody}
 use Rattle.frame_opcodes.specs.declared.Rule.{Rule}
-use Rattle.frame_opcodes.specs.Opcodes.{rule, ruleOf, known, handled, OpcodeLists}
+use Rattle.frame_opcodes.specs.Opcodes.{noRule, ruleOf, OpcodeLists}
 
 -- an opcode that is none of the table's
 module _ (op : ℕ) (n1 : op ≡ 1 → ⊥) (n2 : op ≡ 2 → ⊥) (n3 : op ≡ 3 → ⊥) (n33 : op ≡ 33 → ⊥) (n35 : op ≡ 35 → ⊥)
     (n42 : op ≡ 42 → ⊥) (n43 : op ≡ 43 → ⊥) (n46 : op ≡ 46 → ⊥) (n47 : op ≡ 47 → ⊥) where
-  pub rule-none : ruleOf op ≡ rule Nobody 0 false false
+  pub rule-none : ruleOf op ≡ noRule
   unfolding ruleOf choose
   rule-none =
       rw (ne-eqb op 1 n1, ne-eqb op 2 n2, ne-eqb op 3 n3, ne-eqb op 33 n33, ne-eqb op 35 n35, ne-eqb op 42 n42, ne-eqb op 43 n43, ne-eqb op 46 n46, ne-eqb op 47 n47)
@@ -31,12 +30,25 @@ agree true false e = absurd (false≢true e)
 agree false true e = absurd (false≢true e)
 agree false false e = refl
 
+-- from 48 on nothing is listed
+pub rule-far : (op : ℕ) → 48 ≤ op → ruleOf op ≡ noRule
+rule-far op h =
+    rule-none op (λ e. omega arith) (λ e. omega arith) (λ e. omega arith) (λ e. omega arith) (λ e. omega arith) (λ e. omega arith) (λ e. omega arith) (λ e. omega arith) (λ e. omega arith)
+
+-- a test that all rows pass: below 48 it is computed
+pub every-row : (test : Rule → Bool) → test noRule ≡ true → everyBelow (λ op. test (ruleOf op)) 48 ≡ true → (op : ℕ) → test (ruleOf op) ≡ true
+every-row test none computed op =
+    ⊎-elim
+    (λ (t : ltb op 48 ≡ true). below-is (λ n. test (ruleOf n)) 48 computed op (ltb-true op 48 t))
+    (λ (f : ltb op 48 ≡ false). ap test (rule-far op (ltb-false op 48 f)) ∙ none)
+    (if-known (ltb op 48))
+
 -- a list of the paper and a column of the table agree at every opcode: below 48 by one computed test, and from there on nothing is listed
-module _ (column : Rule → Bool) (list : List ℕ) (none : column (rule Nobody 0 false false) ≡ false) (small : every (λ y. ltb y 48) list ≡ true)
+module _ (column : Rule → Bool) (list : List ℕ) (none : column noRule ≡ false) (small : every (λ y. ltb y 48) list ≡ true)
     (computed : everyBelow (λ op. Bool·beq (column (ruleOf op)) (not (absent op list))) 48 ≡ true) where
   far : (op : ℕ) → 48 ≤ op → column (ruleOf op) ≡ not (absent op list)
   far op h =
-      ap column (rule-none op (λ e. omega arith) (λ e. omega arith) (λ e. omega arith) (λ e. omega arith) (λ e. omega arith) (λ e. omega arith) (λ e. omega arith) (λ e. omega arith) (λ e. omega arith))
+      ap column (rule-far op h)
       ∙ none
       ∙ sym (ap not (absent-is op list .1 (λ i k e. omega (arith, ltb-true (getD list i 0) 48 (every-is (λ y. ltb y 48) list 0 .0 small i k)))))
 
@@ -50,8 +62,11 @@ module _ (column : Rule → Bool) (list : List ℕ) (none : column (rule Nobody 
 pub opcode-lists : OpcodeLists
 unfolding ruleOf choose every everyBelow
 opcode-lists = record {
-  read = listed (λ r. known (r .handler)) (1 ∷ 2 ∷ 3 ∷ 33 ∷ 35 ∷ 42 ∷ 43 ∷ 46 ∷ 47 ∷ []) refl refl refl;
-  handles = listed (λ r. handled (r .handler)) (1 ∷ 3 ∷ 33 ∷ 35 ∷ 42 ∷ 43 ∷ 46 ∷ 47 ∷ []) refl refl refl;
+  read = listed (λ r. r .known) (1 ∷ 2 ∷ 3 ∷ 33 ∷ 35 ∷ 42 ∷ 43 ∷ 46 ∷ 47 ∷ []) refl refl refl;
+  handles = listed (λ r. r .handled) (1 ∷ 3 ∷ 33 ∷ 35 ∷ 42 ∷ 43 ∷ 46 ∷ 47 ∷ []) refl refl refl;
   multicasts = listed (λ r. r .multicast) (1 ∷ 3 ∷ 33 ∷ 35 ∷ 43 ∷ 47 ∷ []) refl refl refl;
   requests = listed (λ r. r .request) (3 ∷ 43 ∷ 47 ∷ []) refl refl refl;
+  losspeers = listed (λ r. r .losspeer) (42 ∷ []) refl refl refl;
+  periods = listed (λ r. r .period) (1 ∷ []) refl refl refl;
+  alarms = listed (λ r. r .alarm) (33 ∷ 35 ∷ []) refl refl refl;
 }

@@ -1,7 +1,7 @@
-// The table of opcodes: handler, least offset, multicast address, request.
-// One match that the reader and the box both use.
+// The table of opcodes: all that an opcode decides, in one row.
+// The one match on an opcode; the reader and the box read its columns.
 ghost use mathlib.Core.Path.{_≡_};
-ghost use Rattle.frame_opcodes.specs.Opcodes.{rule, ruleOf, known, handled};
+ghost use Rattle.frame_opcodes.specs.Opcodes.{ruleOf};
 
 // Who handles a message.
 pub enum Handler {
@@ -19,27 +19,25 @@ pub enum Handler {
     DelayRequest,
 }
 
-// What is asked of a message: its handler, its least TLV offset, whether the multicast address of its level is good, and
-// whether it is a request.
+// All that an opcode decides, a row of the table.
 pub struct Rule {
     pub handler: Handler,
+    // The least TLV offset.
     pub least: usize,
+    // Whether the paper's table has it, so that it can be read.
+    pub known: bool,
+    // Whether the box handles it: any of the table but the loopback reply.
+    pub handled: bool,
+    // Whether the multicast address of its level is a good destination.
     pub multicast: bool,
+    // Whether it is a request, which no group sends.
     pub request: bool,
-}
-
-impl Rule {
-    // One row of the table.
-    fn row(handler: Handler, least: usize, multicast: bool, request: bool) -> Self
-        ensures { λ r. ⌜ r ≡ rule handler least multicast request ⌝ }
-    {
-        Rule {
-            handler,
-            least,
-            multicast,
-            request,
-        }
-    }
+    // Whether it comes from the loss peer alone.
+    pub losspeer: bool,
+    // Whether its period code is not 0.
+    pub period: bool,
+    // Whether its period code is 4 or 6.
+    pub alarm: bool,
 }
 
 // The rule of an opcode.
@@ -47,51 +45,115 @@ pub fn rule_of(opcode: u8) -> Rule
     ensures { λ r. ⌜ r ≡ ruleOf opcode ⌝ }
 {
     match opcode {
-        1 => Rule::row(Handler::Continuity, 70, true, false),
-        2 => Rule::row(Handler::ReaderOnly, 4, false, false),
-        3 => Rule::row(Handler::Loopback, 4, true, true),
-        33 => Rule::row(Handler::Alarm, 0, true, false),
-        35 => Rule::row(Handler::Lock, 0, true, false),
-        42 => Rule::row(Handler::LossReply, 12, false, false),
-        43 => Rule::row(Handler::LossRequest, 12, true, true),
-        46 => Rule::row(Handler::DelayReply, 32, false, false),
-        47 => Rule::row(Handler::DelayRequest, 32, true, true),
-        _ => Rule::row(Handler::Nobody, 0, false, false),
-    }
-}
-
-// Whether the paper's table has the opcode.
-pub fn is_known(handler: Handler) -> bool
-    ensures { λ r. ⌜ r ≡ known handler ⌝ }
-{
-    match handler {
-        Handler::Nobody => false,
-        Handler::ReaderOnly => true,
-        Handler::Continuity => true,
-        Handler::Loopback => true,
-        Handler::Alarm => true,
-        Handler::Lock => true,
-        Handler::LossReply => true,
-        Handler::LossRequest => true,
-        Handler::DelayReply => true,
-        Handler::DelayRequest => true,
-    }
-}
-
-// Whether the box handles the message: any of the table but the loopback reply.
-pub fn is_handled(handler: Handler) -> bool
-    ensures { λ r. ⌜ r ≡ handled handler ⌝ }
-{
-    match handler {
-        Handler::Nobody => false,
-        Handler::ReaderOnly => false,
-        Handler::Continuity => true,
-        Handler::Loopback => true,
-        Handler::Alarm => true,
-        Handler::Lock => true,
-        Handler::LossReply => true,
-        Handler::LossRequest => true,
-        Handler::DelayReply => true,
-        Handler::DelayRequest => true,
+        1 => Rule {
+            handler: Handler::Continuity,
+            least: 70,
+            known: true,
+            handled: true,
+            multicast: true,
+            request: false,
+            losspeer: false,
+            period: true,
+            alarm: false,
+        },
+        2 => Rule {
+            handler: Handler::ReaderOnly,
+            least: 4,
+            known: true,
+            handled: false,
+            multicast: false,
+            request: false,
+            losspeer: false,
+            period: false,
+            alarm: false,
+        },
+        3 => Rule {
+            handler: Handler::Loopback,
+            least: 4,
+            known: true,
+            handled: true,
+            multicast: true,
+            request: true,
+            losspeer: false,
+            period: false,
+            alarm: false,
+        },
+        33 => Rule {
+            handler: Handler::Alarm,
+            least: 0,
+            known: true,
+            handled: true,
+            multicast: true,
+            request: false,
+            losspeer: false,
+            period: false,
+            alarm: true,
+        },
+        35 => Rule {
+            handler: Handler::Lock,
+            least: 0,
+            known: true,
+            handled: true,
+            multicast: true,
+            request: false,
+            losspeer: false,
+            period: false,
+            alarm: true,
+        },
+        42 => Rule {
+            handler: Handler::LossReply,
+            least: 12,
+            known: true,
+            handled: true,
+            multicast: false,
+            request: false,
+            losspeer: true,
+            period: false,
+            alarm: false,
+        },
+        43 => Rule {
+            handler: Handler::LossRequest,
+            least: 12,
+            known: true,
+            handled: true,
+            multicast: true,
+            request: true,
+            losspeer: false,
+            period: false,
+            alarm: false,
+        },
+        46 => Rule {
+            handler: Handler::DelayReply,
+            least: 32,
+            known: true,
+            handled: true,
+            multicast: false,
+            request: false,
+            losspeer: false,
+            period: false,
+            alarm: false,
+        },
+        47 => Rule {
+            handler: Handler::DelayRequest,
+            least: 32,
+            known: true,
+            handled: true,
+            multicast: true,
+            request: true,
+            losspeer: false,
+            period: false,
+            alarm: false,
+        },
+        _ => Rule {
+            handler: Handler::Nobody,
+            least: 0,
+            known: false,
+            handled: false,
+            multicast: false,
+            request: false,
+            losspeer: false,
+            period: false,
+            alarm: false,
+        },
     }
 }

@@ -6,7 +6,7 @@ use mathlib.Core.Bool.{Bool, true, false, not}
 use lib.Dec.{ltb}
 use lib.ListN.{length}
 use Rattle.base_laws.specs.Tests.{choose}
-use Rattle.frame_opcodes.specs.Opcodes.{ruleOf, known}
+use Rattle.frame_opcodes.specs.Opcodes.{ruleOf}
 use Rattle.frame_reader_answer.specs.declared.Bad.{Bad}
 use Rattle.frame_tlvs.specs.declared.Place.{Place}
 use Rattle.frame_tlvs.specs.declared.Place.the-variants as place
@@ -31,7 +31,7 @@ numbersOf f kind =
     (not (lengthGood f), numbers 1 0 0)
     ∷ (not (isOam f), numbers 0 3 0)
     ∷ (ltb (length (pduOf f)) 4, numbers 0 1 0)
-    ∷ (not (known (ruleOf (opcodeOf (pduOf f)) .handler)), numbers 0 3 0)
+    ∷ (not (ruleOf (opcodeOf (pduOf f)) .known), numbers 0 3 0)
     ∷ (ltb (offsetOf (pduOf f)) (ruleOf (opcodeOf (pduOf f)) .least), numbers 0 4 0)
     ∷ (isCut (walkFrom 0 (startOf (pduOf f)) (pduOf f)), numbers 0 5 0)
     ∷ (isFound (walkFrom kind (startOf (pduOf f)) (pduOf f)), numbers 0 0 1)

@@ -7,7 +7,7 @@ use lib.Dec.{ltb}
 use lib.ListN.{length}
 use Rattle.base_laws.specs.Tests.{choose}
 use Rattle.base_laws.proofs.Tests.{choose-map}
-use Rattle.frame_opcodes.specs.Opcodes.{ruleOf, known as known-op}
+use Rattle.frame_opcodes.specs.Opcodes.{ruleOf}
 use Rattle.frame_reader_answer.specs.declared.Bad.{Bad}
 use Rattle.frame_reader_answer.specs.declared.Bad.the-variants.{Length, Short, Opcode, Offset}
 use Rattle.frame_judge.specs.declared.Head.{Head}
@@ -25,7 +25,7 @@ chained bad f last =
     choose ((not (lengthGood f), bad Length) ∷ (not (isOam f), bad Opcode) ∷ [])
     (choose
     ((ltb (length (pduOf f)) 4, bad Short)
-    ∷ (not (known-op (ruleOf (opcodeOf (pduOf f)) .handler)), bad Opcode)
+    ∷ (not (ruleOf (opcodeOf (pduOf f)) .known), bad Opcode)
     ∷ (ltb (offsetOf (pduOf f)) (ruleOf (opcodeOf (pduOf f)) .least), bad Offset)
     ∷ [])
     last)
@@ -41,7 +41,7 @@ through {A} t f kind =
     ∙ ap (λ (x : A). cond (not (lengthGood f)) (t (seek.Bad Length)) (cond (not (isOam f)) (t (seek.Bad Opcode)) x))
     (choose-map u
     ((ltb (length p) 4, head.Bad Short)
-    ∷ (not (known-op (ruleOf (opcodeOf p) .handler)), head.Bad Opcode)
+    ∷ (not (ruleOf (opcodeOf p) .known), head.Bad Opcode)
     ∷ (ltb (offsetOf p) (ruleOf (opcodeOf p) .least), head.Bad Offset)
     ∷ [])
     (head.Tlvs (startOf p)))

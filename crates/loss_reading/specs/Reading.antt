@@ -59,7 +59,8 @@ pub record Sessions : Type 0 where
   pub stays : (s : LossSession) (r : Readings) → WellFormed s → WellFormed (afterReading s r .session)
   -- refusal 2 exactly where a rule is broken, and 5 exactly where none is, a reading is kept and the intervals are all used
   pub refuses-2 : (s : LossSession) (r : Readings) → (afterReading s r .answer ≡ NotWellFormed) ↔ (WellFormed s → ⊥)
-  pub refuses-5 : (s : LossSession) (r : Readings) → (afterReading s r .answer ≡ Full) ↔ (WellFormed s × (s .kept ≡ 1) × (s .intervals ≡ mostIntervals))
+  pub refuses-5 : (s : LossSession) (r : Readings)
+      → (afterReading s r .answer ≡ Full) ↔ (WellFormed s × (s .kept ≡ 1) × (s .intervals ≡ mostIntervals))
   -- both leave the session as it was
   pub refused-2 : (s : LossSession) (r : Readings) → (WellFormed s → ⊥) → afterReading s r .session ≡ s
   pub refused-5 : (s : LossSession) (r : Readings) → afterReading s r .answer ≡ Full → afterReading s r .session ≡ s

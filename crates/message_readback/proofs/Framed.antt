@@ -11,7 +11,7 @@ use Rattle.base_laws.specs.Lists.{part}
 use Rattle.base_laws.proofs.Apart.{part-front}
 use Rattle.base_laws.proofs.Lists.{part-behind, part-all}
 use Rattle.base_numbers.specs.Numbers.{inOctets, octetsLowestFirst, bigEndian}
-use Rattle.frame_opcodes.specs.Opcodes.{ruleOf, known}
+use Rattle.frame_opcodes.specs.Opcodes.{ruleOf}
 use Rattle.frame_tlvs.specs.declared.Place.{Place}
 use Rattle.frame_tlvs.specs.declared.Place.the-variants.{End}
 use Rattle.frame_reader_answer.specs.declared.TlvAnswer.{TlvAnswer}
@@ -70,12 +70,12 @@ shape d s rest first op flags offset = rw oam (simp append-assoc)
 pub record Made (destination source rest : List ℕ) (op flags offset : ℕ) : Type 0 where
   pub d : length destination ≡ 6
   pub s : length source ≡ 6
-  pub k : known (ruleOf op .handler) ≡ true
+  pub k : ruleOf op .known ≡ true
   pub o : ruleOf op .least ≤ offset
   pub l : length rest ≡ offset + 1
   pub z : getD rest offset 0 ≡ 0
   pub m : offset ≤ 1495
-  pub g : codeGood (ruleOf op .handler) (periodCode flags) ≡ true
+  pub g : codeGood (ruleOf op) (periodCode flags) ≡ true
 
 module _ (destination source rest : List ℕ) (first op flags offset : ℕ) (w : Made destination source rest op flags offset) where
   abbrev pdu : List ℕ
@@ -107,9 +107,9 @@ module _ (destination source rest : List ℕ) (first op flags offset : ℕ) (w :
       ∙ ap₂ (λ (x y : Place). answerAt (inFrame (whole x y))) (walked 0) (walked kind)
 
   pub opcode-is : goodOpcode f ≡ op
-  opcode-is = opcode f good (ap (λ (p : List ℕ). codeGood (ruleOf (opcodeOf p) .handler) (periodCode (flagsOf p))) is ∙ w .g) ∙ ap opcodeOf is
+  opcode-is = opcode f good (ap (λ (p : List ℕ). codeGood (ruleOf (opcodeOf p)) (periodCode (flagsOf p))) is ∙ w .g) ∙ ap opcodeOf is
 
-  pub message-is : messageOf f ≡ Message (ruleOf op .handler)
+  pub message-is : messageOf f ≡ Message op
   unfolding messageOf judgedOf
   message-is =
       ap₂ (λ (a : TlvAnswer) (p : List ℕ). unlessBad a (judgedOf (opcodeOf p) (flagsOf p))) (bare 0) is

@@ -11,7 +11,7 @@ use Rattle.base_laws.specs.Lists.{part, laid}
 use Rattle.base_laws.proofs.Apart.{part-before, part-after, drop-after}
 use Rattle.base_laws.proofs.Lists.{length-laid, laid-back, laid-others, length-part, getD-part, part-drop}
 use Rattle.base_numbers.specs.Numbers.{number, bigEndian}
-use Rattle.frame_opcodes.specs.Opcodes.{ruleOf, known}
+use Rattle.frame_opcodes.specs.Opcodes.{ruleOf}
 use Rattle.frame_reader_answer.specs.declared.TlvAnswer.{TlvAnswer}
 use Rattle.frame_reader_answer.specs.declared.TlvAnswer.the-variants as tlv
 use Rattle.frame_head.specs.Head.{destinationOf, sourceOf, etherTypeOf, pduOf, levelOf, versionOf, opcodeOf, flagsOf, offsetOf, startOf}
@@ -123,7 +123,7 @@ through-good tlv.Value m e = refl
 
 -- the frame f answers the request with opcode op; both opcodes have fixed parts of n octets, behind which f is as the request
 module _ (own request f : List ℕ) (op n : ℕ) (g : Good request) (asked : ruleOf (opcodeOf (pduOf request)) .least ≡ n) (w : Head own request op f)
-    (k : known (ruleOf op .handler) ≡ true) (same : ruleOf op .least ≡ n) (free : (code : ℕ) → codeGood (ruleOf op .handler) code ≡ true)
+    (k : ruleOf op .known ≡ true) (same : ruleOf op .least ≡ n) (free : (code : ℕ) → codeGood (ruleOf op) code ≡ true)
     (tail : (at : ℕ) → 18 + n ≤ at → drop at f ≡ drop at request) where
   octet : (i : ℕ) → getD f (14 + i) 0 ≡ getD request (14 + i) 0 → getD (pduOf f) i 0 ≡ getD (pduOf request) i 0
   octet i e = getD-drop 14 f i 0 ∙ e ∙ sym (getD-drop 14 request i 0)
@@ -146,7 +146,7 @@ module _ (own request f : List ℕ) (op n : ℕ) (g : Good request) (asked : rul
     longest = omega (arith, w .long, g .headed .longest);
     oam = ether-is;
     head = omega (arith, length-drop 14 f, length-drop 14 request, w .long, g .headed .head);
-    opcode = ap (λ (o : ℕ). known (ruleOf o .handler)) opcode-is ∙ k;
+    opcode = ap (λ (o : ℕ). ruleOf o .known) opcode-is ∙ k;
     offset = omega (arith, ap (λ (o : ℕ). ruleOf o .least) opcode-is, same, asked, offset-is, g .headed .offset);
   }
 
@@ -168,10 +168,10 @@ module _ (own request f : List ℕ) (op n : ℕ) (g : Good request) (asked : rul
   pub opcode-told : goodOpcode f ≡ op
   opcode-told =
       opcode f (good-frames .read f 0 .0 read)
-      (ap (λ (o : ℕ). codeGood (ruleOf o .handler) (periodCode (flagsOf (pduOf f)))) opcode-is ∙ free (periodCode (flagsOf (pduOf f))))
+      (ap (λ (o : ℕ). codeGood (ruleOf o) (periodCode (flagsOf (pduOf f)))) opcode-is ∙ free (periodCode (flagsOf (pduOf f))))
       ∙ opcode-is
 
-  pub answers : Answers own request op (ruleOf op .handler) f
+  pub answers : Answers own request op f
   unfolding messageOf judgedOf
   answers = record {
     long = w .long;

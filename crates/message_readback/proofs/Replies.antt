@@ -14,15 +14,13 @@ use Rattle.base_laws.proofs.Lists.{part-drop, part-all}
 use Rattle.base_numbers.specs.Numbers.{number, bigEndian}
 use Rattle.base_stamp.specs.declared.Stamp.{Stamp}
 use Rattle.base_stamp.specs.Stamps.{Wire}
-use Rattle.frame_opcodes.specs.declared.Handler.{Handler}
-use Rattle.frame_opcodes.specs.declared.Handler.the-variants.{ReaderOnly, Loopback, LossReply, LossRequest, DelayReply, DelayRequest}
 use Rattle.frame_opcodes.specs.Opcodes.{ruleOf}
 use Rattle.frame_head.specs.Head.{pduOf, opcodeOf, word}
 use Rattle.frame_message_answer.specs.declared.MessageAnswer.the-variants.{Message}
 use Rattle.frame_message_answer.specs.declared.MessageTold.{MessageTold}
 use Rattle.frame_message.specs.Good.{Good}
 use Rattle.frame_message.specs.Message.{messageOf}
-use Rattle.frame_message_answer.specs.Told.{opcodeFor, told}
+use Rattle.frame_message_answer.specs.Told.{told}
 use Rattle.frame_message.specs.Told.{goodOpcode}
 use Rattle.frame_message.proofs.Goods.{good-frames}
 use Rattle.frame_message.proofs.Numbers.{agree, only}
@@ -47,11 +45,11 @@ record Request (f : List ℕ) (k n : ℕ) : Type 0 where
   least : ruleOf (opcodeOf (pduOf f)) .least ≡ n
   long : 18 + n < length f
 
-requested : (f : List ℕ) (h : Handler) (n : ℕ) → messageOf f ≡ Message h → 0 < opcodeFor h → ruleOf (opcodeFor h) .least ≡ n → Request f (opcodeFor h) n
+requested : (f : List ℕ) (k n : ℕ) → messageOf f ≡ Message k → 0 < k → ruleOf k .least ≡ n → Request f k n
 unfolding told
-requested f h n e p l =
-    let t : goodOpcode f ≡ opcodeFor h = ap (λ (t : MessageTold). t .opcode) (sym (agree f) ∙ ap told e) in
-    let m = only f (λ z. let y : opcodeFor h ≡ 0 = sym t ∙ z in omega arith) in
+requested f k n e p l =
+    let t : goodOpcode f ≡ k = ap (λ (t : MessageTold). t .opcode) (sym (agree f) ∙ ap told e) in
+    let m = only f (λ z. let y : k ≡ 0 = sym t ∙ z in omega arith) in
     let o : ruleOf (opcodeOf (pduOf f)) .least ≡ n = ap (λ (op : ℕ). ruleOf op .least) (sym (m .1) ∙ t) ∙ l in
     record { told-is = t; good = m .0; least = o; long = omega (arith, o, good-frames .fixed f (m .0), length-drop 14 f) }
 
@@ -69,10 +67,10 @@ whole-count v = ap (λ (n : ℕ). part 0 n (count v)) (sym (count-long v)) ∙ p
 
 -- ── LBR ──
 
-module _ (own request : List ℕ) (o : length own ≡ 6) (e : messageOf request ≡ Message Loopback) where
+module _ (own request : List ℕ) (o : length own ≡ 6) (e : messageOf request ≡ Message 3) where
   lbr-asked : Request request 3 4
   unfolding ruleOf choose
-  lbr-asked = requested request Loopback 4 e (omega arith) refl
+  lbr-asked = requested request 3 4 e (omega arith) refl
 
   lbr-head : Head own request 2 (lbrOctets own request)
   lbr-head = reply-head own request 2 o (omega (arith, lbr-asked .long))
@@ -80,7 +78,7 @@ module _ (own request : List ℕ) (o : length own ≡ 6) (e : messageOf request 
   lbr-tail : (k : ℕ) → 16 ≤ k → drop k (lbrOctets own request) ≡ drop k request
   lbr-tail = reply-tail own request 2 o (omega (arith, lbr-asked .long))
 
-  lbr : Answers own request 2 ReaderOnly (lbrOctets own request) × (transactionOf (lbrOctets own request) ≡ transactionOf request)
+  lbr : Answers own request 2 (lbrOctets own request) × (transactionOf (lbrOctets own request) ≡ transactionOf request)
   unfolding ruleOf choose transactionOf
   lbr =
       let f = lbrOctets own request in
@@ -95,10 +93,10 @@ module _ (own request : List ℕ) (o : length own ≡ 6) (e : messageOf request 
 
 -- ── LMR ──
 
-module _ (own request : List ℕ) (received sent : ℕ) (o : length own ≡ 6) (hr : Word received) (hs : Word sent) (e : messageOf request ≡ Message LossRequest) where
+module _ (own request : List ℕ) (received sent : ℕ) (o : length own ≡ 6) (hr : Word received) (hs : Word sent) (e : messageOf request ≡ Message 43) where
   lmr-asked : Request request 43 12
   unfolding ruleOf choose
-  lmr-asked = requested request LossRequest 12 e (omega arith) refl
+  lmr-asked = requested request 43 12 e (omega arith) refl
 
   abbrev lmr-reply : List ℕ
   lmr-reply = replyOctets own 42 request
@@ -148,7 +146,7 @@ module _ (own request : List ℕ) (received sent : ℕ) (o : length own ≡ 6) (
       ∙ whole-count sent)
       ∙ counted sent hs)
 
-  lmr : Answers own request 42 LossReply (lmrOctets own received sent request)
+  lmr : Answers own request 42 (lmrOctets own received sent request)
       × (lossOf (lmrOctets own received sent request) ≡ record { txfcf = lossOf request .txfcf; rxfcf = received; txfcb = sent })
   unfolding lmrOctets lossOf ruleOf choose
   lmr =
@@ -176,10 +174,10 @@ module _ (at : ℕ) (t : Stamp) (l : List ℕ) (w : Wire t) (fits : at + length 
       ∙ at-end (count (t .seconds)) (count (t .nanoseconds)) 4 4 (count-long (t .seconds)) (count-long (t .nanoseconds)))
       ∙ counted (t .nanoseconds) (w .nanoseconds)
 
-module _ (own request : List ℕ) (receive transmit : Stamp) (o : length own ≡ 6) (hr : Wire receive) (ht : Wire transmit) (e : messageOf request ≡ Message DelayRequest) where
+module _ (own request : List ℕ) (receive transmit : Stamp) (o : length own ≡ 6) (hr : Wire receive) (ht : Wire transmit) (e : messageOf request ≡ Message 47) where
   dmr-asked : Request request 47 32
   unfolding ruleOf choose
-  dmr-asked = requested request DelayRequest 32 e (omega arith) refl
+  dmr-asked = requested request 47 32 e (omega arith) refl
 
   abbrev dmr-reply : List ℕ
   dmr-reply = replyOctets own 46 request
@@ -235,7 +233,7 @@ module _ (own request : List ℕ) (receive transmit : Stamp) (o : length own ≡
       (ap (number bigEndian) (in-pdu 20 4 dmr-frame) ∙ seconds-in 34 transmit dmr-first ht dmr-fit1)
       (ap (number bigEndian) (in-pdu 24 4 dmr-frame) ∙ nanoseconds-in 34 transmit dmr-first ht dmr-fit1)
 
-  dmr : Answers own request 46 DelayReply (dmrOctets own receive transmit request)
+  dmr : Answers own request 46 (dmrOctets own receive transmit request)
       × (delayOf (dmrOctets own receive transmit request) ≡ record { txtimestampf = delayOf request .txtimestampf; rxtimestampf = receive; txtimestampb = transmit })
       × (part 28 8 (pduOf (dmrOctets own receive transmit request)) ≡ part 28 8 (pduOf request))
   unfolding dmrOctets delayOf ruleOf choose
@@ -257,14 +255,14 @@ uncut : (f : List ℕ) (k n : ℕ) → Request f k n → cutOff n f ≡ false
 uncut f k n q = le-ltb (length f) (18 + n) (omega (arith, q .long))
 
 whole : (request : List ℕ)
-    → (messageOf request ≡ Message Loopback → cutOff 4 request ≡ false)
-    × (messageOf request ≡ Message LossRequest → cutOff 12 request ≡ false)
-    × (messageOf request ≡ Message DelayRequest → cutOff 32 request ≡ false)
+    → (messageOf request ≡ Message 3 → cutOff 4 request ≡ false)
+    × (messageOf request ≡ Message 43 → cutOff 12 request ≡ false)
+    × (messageOf request ≡ Message 47 → cutOff 32 request ≡ false)
 unfolding ruleOf choose
 whole f = (
-  λ e. uncut f 3 4 (requested f Loopback 4 e (omega arith) refl),
-  λ e. uncut f 43 12 (requested f LossRequest 12 e (omega arith) refl),
-  λ e. uncut f 47 32 (requested f DelayRequest 32 e (omega arith) refl),
+  λ e. uncut f 3 4 (requested f 3 4 e (omega arith) refl),
+  λ e. uncut f 43 12 (requested f 43 12 e (omega arith) refl),
+  λ e. uncut f 47 32 (requested f 47 32 e (omega arith) refl),
 )
 
 pub replies-back : RepliesBack

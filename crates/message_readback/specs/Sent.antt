@@ -6,7 +6,6 @@ use lib.ListN.{length}
 use Rattle.base_bits.specs.Fields.{ccmFlags}
 use Rattle.base_stamp.specs.declared.Stamp.{Stamp}
 use Rattle.base_stamp.specs.Stamps.{notGiven, Wire}
-use Rattle.frame_opcodes.specs.declared.Handler.the-variants.{Continuity, LossRequest, DelayRequest}
 use Rattle.frame_reader_answer.specs.declared.TlvAnswer.the-variants.{NoSuch}
 use Rattle.frame_reader.specs.Reader.{answerOf}
 use Rattle.frame_message_answer.specs.declared.MessageAnswer.the-variants.{Message}
@@ -37,7 +36,7 @@ pub record CcmGiven (source meg : List ℕ) (c : CcmValues) : Type 0 where
 
 pub record CcmBack (source meg : List ℕ) (c : CcmValues) (f : List ℕ) : Type 0 where
   pub head : Says f (multicastOf (c .level)) source (c .level) 0 1 (ccmFlags (c .rdi) (c .period)) 70
-  pub message : messageOf f ≡ Message Continuity
+  pub message : messageOf f ≡ Message 1
   pub fields : ccmOf f ≡ record { sequence = c .sequence; mep = c .mep; txfcf = c .txfcf; rxfcb = c .rxfcb; txfcb = c .txfcb; period = c .period; rdi = c .rdi }
   pub name : megOf f ≡ meg
   pub bare : (kind : ℕ) → answerOf f kind ≡ NoSuch
@@ -46,13 +45,13 @@ pub record CcmBack (source meg : List ℕ) (c : CcmValues) (f : List ℕ) : Type
 
 pub record LmmBack (destination source : List ℕ) (level sent : ℕ) (f : List ℕ) : Type 0 where
   pub head : Says f destination source level 1 43 0 12
-  pub message : messageOf f ≡ Message LossRequest
+  pub message : messageOf f ≡ Message 43
   pub fields : lossOf f ≡ record { txfcf = sent; rxfcf = 0; txfcb = 0 }
   pub bare : (kind : ℕ) → answerOf f kind ≡ NoSuch
 
 pub record DmmBack (destination source : List ℕ) (level : ℕ) (stamp : Stamp) (f : List ℕ) : Type 0 where
   pub head : Says f destination source level 1 47 0 32
-  pub message : messageOf f ≡ Message DelayRequest
+  pub message : messageOf f ≡ Message 47
   pub fields : delayOf f ≡ record { txtimestampf = stamp; rxtimestampf = notGiven; txtimestampb = notGiven }
   pub bare : (kind : ℕ) → answerOf f kind ≡ NoSuch
 

@@ -1,4 +1,5 @@
--- A reply laid over the buffer: the request first, and what differs laid inside it, for any octets. Assumes nothing.
+-- Octets laid over others, each at its place, and over the front of a buffer; a reply is the request with three pieces laid over it so.
+-- Assumes nothing.
 use Prim.Native.Nat.{ℕ, _+_, _≤_}
 use mathlib.Core.Path.{_≡_, refl, ap, _∙_}
 use mathlib.Core.List.{List, [], _∷_}
@@ -9,47 +10,59 @@ use Rattle.base_laws.proofs.Lists.{laid-inside, laid-one, length-laid, length-p
 use Rattle.frame_head.specs.Head.{sourceOf}
 use Rattle.message_reply.specs.Replies.{replyOctets}
 
--- ── how long they are ──
+-- octets laid over r, each at its place
+unfoldable pub over : List (ℕ × List ℕ) → List ℕ → List ℕ
+over [] r = r
+over (piece ∷ pieces) r = over pieces (laid (piece .0) (piece .1) r)
 
--- n octets with m of them laid over
-pub kept : {n : ℕ} (at m : ℕ) (xs r : List ℕ) → length r ≡ n → length xs ≡ m → at + m ≤ n → length (laid at xs r) ≡ n
-kept at m xs r e f h = length-laid at xs r (omega arith) ∙ e
+-- each of them ends within n octets
+unfoldable pub Within : ℕ → List (ℕ × List ℕ) → Type 0
+Within n [] = Unit
+Within n (piece ∷ pieces) = (piece .0 + length (piece .1) ≤ n) × Within n pieces
 
-module _ (own request : List ℕ) (h : length own ≡ 6) where
-  pub reply-long : (opcode : ℕ) → 18 ≤ length request → length (replyOctets own opcode request) ≡ length request
-  unfolding replyOctets
-  reply-long opcode k =
-      let to = kept 0 6 (sourceOf request) request refl (length-part 6 6 request (omega arith)) (omega arith) in
-      kept 15 1 (opcode ∷ []) (laid 6 own (laid 0 (sourceOf request) request)) (kept 6 6 own (laid 0 (sourceOf request) request) to h (omega arith)) refl (omega arith)
+pub over-long : {n : ℕ} (pieces : List (ℕ × List ℕ)) (r : List ℕ) → Within n pieces → n ≤ length r → length (over pieces r) ≡ length r
+unfolding over Within
+over-long [] r w h = refl
+over-long (piece ∷ pieces) r w h =
+    let fits = w .0 in
+    let one = length-laid (piece .0) (piece .1) r (omega arith) in
+    over-long pieces (laid (piece .0) (piece .1) r) (w .1) (omega (arith, one)) ∙ one
+
+-- laid over the front of a buffer, or over what is laid there: the same
+pub over-laid : {n : ℕ} (pieces : List (ℕ × List ℕ)) (r l : List ℕ) → Within n pieces → n ≤ length r → length r ≤ length l
+    → over pieces (laid 0 r l) ≡ laid 0 (over pieces r) l
+unfolding over Within
+over-laid [] r l w h k = refl
+over-laid (piece ∷ pieces) r l w h k =
+    let fits = w .0 in
+    let one = length-laid (piece .0) (piece .1) r (omega arith) in
+    ap (over pieces) (laid-inside (piece .0) (piece .1) r l (omega arith) k)
+    ∙ over-laid pieces (laid (piece .0) (piece .1) r) l (w .1) (omega (arith, one)) (omega (arith, one))
 
 -- ── a reply ──
 
--- x is l with the n octets of r laid over its front
-pub record Has (n : ℕ) (r l x : List ℕ) : Type 0 where
-  pub is : x ≡ laid 0 r l
-  pub long : length r ≡ n
+module _ (own request : List ℕ) (h : length own ≡ 6) (opcode : ℕ) (k : 18 ≤ length request) where
+  -- the request's source, our address, the opcode
+  abbrev pieces : List (ℕ × List ℕ)
+  pieces = (0, sourceOf request) ∷ (6, own) ∷ (15, opcode ∷ []) ∷ []
 
-pub begun : (r l : List ℕ) {x : List ℕ} {n : ℕ} → x ≡ laid 0 r l → length r ≡ n → Has n r l x
-begun r l e h = record { is = e; long = h }
+  within : Within 18 pieces
+  unfolding Within
+  within = (omega (arith, length-part 6 6 request (omega arith)), (omega arith, (omega arith, tt)))
 
--- and m octets laid inside them
-pub inside : {n : ℕ} {r l x y : List ℕ} (at m : ℕ) (xs : List ℕ) → n ≤ length l → Has n r l x → y ≡ laid at xs x → length xs ≡ m → at + m ≤ n
-    → Has n (laid at xs r) l y
-inside {n} {r} {l} at m xs h p e k f = record {
-  is = e ∙ ap (laid at xs) (p .is) ∙ laid-inside at xs r l (omega (arith, p .long)) (omega (arith, p .long));
-  long = kept at m xs r (p .long) k f;
-}
+  pub reply-long : length (replyOctets own opcode request) ≡ length request
+  unfolding replyOctets over
+  reply-long = over-long pieces request within k
 
-as-long : {n : ℕ} {r l x : List ℕ} → Has n r l x → n ≤ length l → length x ≡ length l
-as-long {n} {r} {l} p h = ap length (p .is) ∙ length-laid 0 r l (omega (arith, p .long))
-
-module _ (own request l : List ℕ) (h : length own ≡ 6) (room : length request ≤ length l) where
-  pub reply-laid : (opcode : ℕ) {x y z : List ℕ} → 18 ≤ length request
+  pub reply-laid : (l : List ℕ) {x y z : List ℕ} → length request ≤ length l
       → x ≡ laid 0 request l → y ≡ laid 0 (take 6 (drop 6 request)) x → z ≡ laid 6 own y
       → set z 15 opcode ≡ laid 0 (replyOctets own opcode request) l
-  unfolding part replyOctets
-  reply-laid opcode {z = z} k e1 e2 e3 =
-      let p1 = begun request l e1 refl in
-      let p2 = inside 0 6 (take 6 (drop 6 request)) room p1 e2 (length-part 6 6 request (omega arith)) (omega arith) in
-      let p3 = inside 6 6 own room p2 e3 h (omega arith) in
-      inside 15 1 (opcode ∷ []) room p3 (laid-one 15 z opcode (omega (arith, as-long p3 room))) refl (omega arith) .is
+  unfolding part replyOctets over Within within
+  reply-laid l {x} {y} {z} room e1 e2 e3 =
+      let to = sourceOf request in
+      let addresses : z ≡ laid 6 own (laid 0 to (laid 0 request l)) = e3 ∙ ap (laid 6 own) (e2 ∙ ap (laid 0 to) e1) in
+      let whole = length-laid 0 request l (omega arith) in
+      let long = over-long ((0, to) ∷ (6, own) ∷ []) (laid 0 request l) (within .0, (within .1 .0, tt)) (omega (arith, whole)) in
+      laid-one 15 z opcode (omega (arith, ap length addresses ∙ long ∙ whole))
+      ∙ ap (laid 15 (opcode ∷ [])) addresses
+      ∙ over-laid pieces request l within k room

@@ -1,3 +1,4 @@
 pub mod Laid
 pub mod Numbers
 pub mod One
+pub mod Over

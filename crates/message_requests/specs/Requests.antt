@@ -40,5 +40,7 @@ abbrev pub dmmLength : ℕ
 dmmLength = 51
 
 pub record Lengths : Type 0 where
-  pub lmm : (destination source : List ℕ) (level sent : ℕ) → length destination ≡ 6 → length source ≡ 6 → length (lmmOctets destination source level sent) ≡ lmmLength
-  pub dmm : (destination source : List ℕ) (level : ℕ) (stamp : Stamp) → length destination ≡ 6 → length source ≡ 6 → length (dmmOctets destination source level stamp) ≡ dmmLength
+  pub lmm : (destination source : List ℕ) (level sent : ℕ) → length destination ≡ 6 → length source ≡ 6
+      → length (lmmOctets destination source level sent) ≡ lmmLength
+  pub dmm : (destination source : List ℕ) (level : ℕ) (stamp : Stamp) → length destination ≡ 6 → length source ≡ 6
+      → length (dmmOctets destination source level stamp) ≡ dmmLength

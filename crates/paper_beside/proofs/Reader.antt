@@ -15,7 +15,7 @@ use Rattle.base_laws.specs.Lists.{part, every}
 use Rattle.base_laws.proofs.Tests.{known as if-known}
 use Rattle.base_octets.specs.Octets.{Octets}
 use Rattle.base_numbers.specs.Numbers.{number, inOctets, bigEndian, numberLowestFirst, octetsLowestFirst}
-use Rattle.frame_opcodes.specs.Opcodes.{ruleOf, known, handled}
+use Rattle.frame_opcodes.specs.Opcodes.{ruleOf}
 use Rattle.frame_opcodes.proofs.Rules.{opcode-lists}
 use Rattle.frame_tlvs.specs.declared.Place.{Place}
 use Rattle.frame_tlvs.specs.declared.Place.the-variants as place
@@ -45,13 +45,13 @@ unfolding ruleOf choose
 table-least (in-box h) = row-least h
 table-least lbr = refl
 
-table-known : {op least : ℕ} → InTable op least → known (ruleOf op .handler) ≡ true
+table-known : {op least : ℕ} → InTable op least → ruleOf op .known ≡ true
 unfolding ruleOf choose
 table-known (in-box h) = row-known h
 table-known lbr = refl
 
 -- the box's eight and the loopback reply are the nine of the list
-in-table : (op : ℕ) → known (ruleOf op .handler) ≡ true → (least : ℕ) × InTable op least
+in-table : (op : ℕ) → ruleOf op .known ≡ true → (least : ℕ) × InTable op least
 in-table op k =
     ⊎-elim
     (λ (e : op ≡ 1). rw e (70, in-box ccm))
@@ -64,12 +64,12 @@ in-table op k =
     (first o))
     (first (found op _ (not-true _ (sym (opcode-lists .read op) ∙ k))))
 
-not-in-table : (op : ℕ) → ((least : ℕ) → InTable op least → ⊥) → known (ruleOf op .handler) ≡ false
+not-in-table : (op : ℕ) → ((least : ℕ) → InTable op least → ⊥) → ruleOf op .known ≡ false
 not-in-table op n =
     ⊎-elim
-    (λ (t : known (ruleOf op .handler) ≡ true). let r = in-table op t in absurd (n (r .0) (r .1)))
-    (λ (t : known (ruleOf op .handler) ≡ false). t)
-    (if-known (known (ruleOf op .handler)))
+    (λ (t : ruleOf op .known ≡ true). let r = in-table op t in absurd (n (r .0) (r .1)))
+    (λ (t : ruleOf op .known ≡ false). t)
+    (if-known (ruleOf op .known))
 
 -- ── what ours tells ──
 
@@ -190,14 +190,14 @@ module _ (f : List ℕ) (kind : ℕ) (w : Octets f) where
   every-oam : OamFrame f → (r : ReaderTells) × ReaderSaid f kind r
   every-oam o =
       ⊎-elim
-      (λ (t : known (ruleOf (opcodeOf (pduOf f)) .handler) ≡ true).
+      (λ (t : ruleOf (opcodeOf (pduOf f)) .known ≡ true).
       let r = in-table (opcodeOf (pduOf f)) t in
       ⊎-elim
       (λ (u : ltb (offsetOf (pduOf f)) (r .0) ≡ true). (dropped 4, reader-D4 (r .0) o (r .1) (ltb-true (offsetOf (pduOf f)) (r .0) u)))
       (λ (u : ltb (offsetOf (pduOf f)) (r .0) ≡ false). every-offered (record { oam = o; least = r .0; opcode = r .1; offset = ltb-false (offsetOf (pduOf f)) (r .0) u }))
       (if-known (ltb (offsetOf (pduOf f)) (r .0))))
-      (λ (t : known (ruleOf (opcodeOf (pduOf f)) .handler) ≡ false). (dropped 3, reader-D3 o (λ least i. true≢false (sym (table-known i) ∙ t))))
-      (if-known (known (ruleOf (opcodeOf (pduOf f)) .handler)))
+      (λ (t : ruleOf (opcodeOf (pduOf f)) .known ≡ false). (dropped 3, reader-D3 o (λ least i. true≢false (sym (table-known i) ∙ t))))
+      (if-known (ruleOf (opcodeOf (pduOf f)) .known))
 
   every-long : Long f → (r : ReaderTells) × ReaderSaid f kind r
   every-long l =

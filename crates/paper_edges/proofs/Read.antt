@@ -27,13 +27,13 @@ use Rattle.frame_message.proofs.Numbers.{message-numbers}
 use Rattle.frame_message.proofs.Shape.{framed, pdu-is, headed}
 use Rattle.paper_edges.specs.Table.{isRead}
 
--- an answer without a reason leaves the message, and one with a good code is its handler's
+-- an answer without a reason leaves the message, and one with a good code is its opcode's
 unless-good : (a : TlvAnswer) (m : MessageAnswer) → isBad a ≡ false → unlessBad a m ≡ m
 unless-good (tlv.Bad b) m e = absurd (true≢false e)
 unless-good tlv.NoSuch m e = refl
 unless-good tlv.Value m e = refl
 
-judged : (op flags : ℕ) → codeGood (ruleOf op .handler) (periodCode flags) ≡ true → judgedOf op flags ≡ Message (ruleOf op .handler)
+judged : (op flags : ℕ) → codeGood (ruleOf op) (periodCode flags) ≡ true → judgedOf op flags ≡ Message op
 unfolding judgedOf
 judged op flags e = rw e
 
@@ -51,8 +51,8 @@ is-read addresses fixed extra tlvs level flags ts a l m n run code =
     let good : Good f = record { headed = hf; ends = ap isCut (e .1) } in
     let op : opcodeOf (pduOf f) ≡ 1 = ap opcodeOf ep in
     let fl : flagsOf (pduOf f) ≡ flags = ap flagsOf ep in
-    let cg : codeGood (ruleOf (opcodeOf (pduOf f)) .handler) (periodCode (flagsOf (pduOf f))) ≡ true =
+    let cg : codeGood (ruleOf (opcodeOf (pduOf f))) (periodCode (flagsOf (pduOf f))) ≡ true =
     rw (op, fl, ne-eqb (flags % 8) 0 code) in
     let one : goodOpcode f ≡ 1 = message-numbers .opcode f good cg ∙ op in
     let kind = unless-good (answerOf f 0) _ (good-frames .read f 0 .1 good) ∙ judged _ _ cg in
-    (kind ∙ ap (λ (o : ℕ). Message (ruleOf o .handler)) op, eq-eqb (goodOpcode f) 1 one)
+    (kind ∙ ap Message op, eq-eqb (goodOpcode f) 1 one)

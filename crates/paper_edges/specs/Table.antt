@@ -30,7 +30,6 @@ use Rattle.frame_reader.specs.Reader.{answerOf, valueOf}
 use Rattle.frame_reader.specs.Numbers as Reader
 use Rattle.frame_reader_answer.specs.Told as Reasons
 use Rattle.frame_message.specs.Message.{messageOf}
-use Rattle.frame_opcodes.specs.declared.Handler.the-variants.{Continuity}
 use Rattle.frame_message_answer.specs.declared.MessageAnswer.the-variants.{Message}
 use Rattle.frame_ccm.specs.Ccm.{isCcm, ccmOf, megOf}
 use Rattle.frame_tlvs.specs.Tlvs.{Tlvs}
@@ -100,7 +99,7 @@ fourMore = (addresses fixed extra tlvs : List ℕ) (level first flags : ℕ) →
 abbrev pub isRead : Type 0
 isRead = (addresses fixed extra tlvs : List ℕ) (level flags : ℕ) (ts : List (ℕ × List ℕ)) → length addresses ≡ 12 → length fixed ≡ 70
     → length extra ≡ 4 → length tlvs ≤ 1422 → Tlvs tlvs ts → (flags % 8 ≡ 0 → ⊥)
-    → (messageOf (ccmFrame addresses (firstOctet level 1) flags 74 (fixed ++ extra ++ tlvs)) ≡ Message Continuity)
+    → (messageOf (ccmFrame addresses (firstOctet level 1) flags 74 (fixed ++ extra ++ tlvs)) ≡ Message 1)
     × (isCcm (ccmFrame addresses (firstOctet level 1) flags 74 (fixed ++ extra ++ tlvs)) ≡ true)
 
 -- one with offset 69 is D4, whatever else it holds

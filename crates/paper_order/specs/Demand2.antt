@@ -10,7 +10,6 @@ use Rattle.base_stamp.specs.declared.Stamp.{Stamp}
 use Rattle.base_stamp.specs.Stamps.{Wire}
 use Rattle.state_view.specs.State.{State}
 use Rattle.state_view.specs.Changed.{lowered}
-use Rattle.frame_opcodes.specs.declared.Handler.the-variants.{ReaderOnly, LossReply, DelayReply}
 use Rattle.frame_loopback_alarm.specs.Fixed.{transactionOf}
 use Rattle.frame_measures.specs.Measures.{lossOf, delayOf}
 use Rattle.paper_said.specs.Calls.{Arrival, Call, frame, tick, send-LMM, send-DMM, written, OnWire, Box}
@@ -39,10 +38,10 @@ pub record CcmSent (s : State) (buffer : List ℕ) : Type 0 where
 
 -- a reply reads back as the request with what differs: our two counts in an LMR, the caller's two stamps in a DMR
 pub data ReplyBack (s : State) (a : Arrival) (f : List ℕ) : Type 0 where
-  lbr : opcode a ≡ 3 → Answers (s .settings .own) (a .octets) 2 ReaderOnly f → transactionOf f ≡ transactionOf (a .octets) → ReplyBack s a f
-  lmr : opcode a ≡ 43 → Answers (s .settings .own) (a .octets) 42 LossReply f
+  lbr : opcode a ≡ 3 → Answers (s .settings .own) (a .octets) 2 f → transactionOf f ≡ transactionOf (a .octets) → ReplyBack s a f
+  lmr : opcode a ≡ 43 → Answers (s .settings .own) (a .octets) 42 f
       → lossOf f ≡ record { txfcf = lossOf (a .octets) .txfcf; rxfcf = s .received; txfcb = s .sent } → ReplyBack s a f
-  dmr : opcode a ≡ 47 → Answers (s .settings .own) (a .octets) 46 DelayReply f
+  dmr : opcode a ≡ 47 → Answers (s .settings .own) (a .octets) 46 f
       → delayOf f ≡ record { txtimestampf = delayOf (a .octets) .txtimestampf; rxtimestampf = a .receive; txtimestampb = a .transmit } → ReplyBack s a f
 
 pub record Demand2 (B : Box) : Type 0 where

@@ -7,7 +7,6 @@ use mathlib.Core.Logic.{⊎-elim, _⊎_}
 use borrow.Author.Tests.{eq-eqb, ne-eqb}
 use Rattle.base_laws.specs.Tests.{choose}
 use Rattle.frame_opcodes.specs.Opcodes.{ruleOf}
-use Rattle.frame_opcodes.specs.declared.Handler.the-variants.{Continuity, Loopback, Alarm, Lock, LossReply, LossRequest, DelayReply, DelayRequest}
 use Rattle.frame_message_answer.specs.declared.MessageAnswer.the-variants.{Message, PeriodCode}
 use Rattle.frame_message.specs.Message.{periodCode, alarmCode, judgedOf}
 use Rattle.paper_said.specs.Cases.{OneOf, here, there}
@@ -18,27 +17,27 @@ module _ {op : ℕ} (flags : ℕ) where
   unfolding judgedOf ruleOf choose
   ccm-bad e z = rw (e, eq-eqb (periodCode flags) 0 z)
 
-  pub ccm-good : op ≡ 1 → (periodCode flags ≡ 0 → ⊥) → judgedOf op flags ≡ Message Continuity
+  pub ccm-good : op ≡ 1 → (periodCode flags ≡ 0 → ⊥) → judgedOf op flags ≡ Message 1
   unfolding judgedOf ruleOf choose
   ccm-good e n = rw (e, ne-eqb (periodCode flags) 0 n)
 
-  pub lbm : op ≡ 3 → judgedOf op flags ≡ Message Loopback
+  pub lbm : op ≡ 3 → judgedOf op flags ≡ Message 3
   unfolding judgedOf ruleOf choose
   lbm e = rw e
 
-  pub lmr : op ≡ 42 → judgedOf op flags ≡ Message LossReply
+  pub lmr : op ≡ 42 → judgedOf op flags ≡ Message 42
   unfolding judgedOf ruleOf choose
   lmr e = rw e
 
-  pub lmm : op ≡ 43 → judgedOf op flags ≡ Message LossRequest
+  pub lmm : op ≡ 43 → judgedOf op flags ≡ Message 43
   unfolding judgedOf ruleOf choose
   lmm e = rw e
 
-  pub dmr : op ≡ 46 → judgedOf op flags ≡ Message DelayReply
+  pub dmr : op ≡ 46 → judgedOf op flags ≡ Message 46
   unfolding judgedOf ruleOf choose
   dmr e = rw e
 
-  pub dmm : op ≡ 47 → judgedOf op flags ≡ Message DelayRequest
+  pub dmm : op ≡ 47 → judgedOf op flags ≡ Message 47
   unfolding judgedOf ruleOf choose
   dmm e = rw e
 
@@ -55,11 +54,11 @@ pub code-no : (code : ℕ) → (OneOf code (4 ∷ 6 ∷ []) → ⊥) → alarmCo
 code-no code n = rw (ne-eqb code 4 (λ e. n (rw e here)), ne-eqb code 6 (λ e. n (rw e (there here))))
 
 module _ {op : ℕ} (flags : ℕ) where
-  pub ais-good : op ≡ 33 → OneOf (periodCode flags) (4 ∷ 6 ∷ []) → judgedOf op flags ≡ Message Alarm
+  pub ais-good : op ≡ 33 → OneOf (periodCode flags) (4 ∷ 6 ∷ []) → judgedOf op flags ≡ Message 33
   unfolding judgedOf ruleOf choose
   ais-good e o = rw (e, code-yes o)
 
-  pub lck-good : op ≡ 35 → OneOf (periodCode flags) (4 ∷ 6 ∷ []) → judgedOf op flags ≡ Message Lock
+  pub lck-good : op ≡ 35 → OneOf (periodCode flags) (4 ∷ 6 ∷ []) → judgedOf op flags ≡ Message 35
   unfolding judgedOf ruleOf choose
   lck-good e o = rw (e, code-yes o)
 

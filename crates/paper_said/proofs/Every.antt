@@ -21,7 +21,7 @@ use Rattle.base_stamp.specs.Stamps.{good}
 use Rattle.loss_session.specs.Session.{mostIntervals}
 use Rattle.receive_delay.specs.Used.{paired, usable, between}
 use Rattle.receive_delay.specs.Delays.{formed, held}
-use Rattle.frame_opcodes.specs.Opcodes.{ruleOf, handled}
+use Rattle.frame_opcodes.specs.Opcodes.{ruleOf}
 use Rattle.frame_head.specs.Head.{etherTypeOf, lengthGood, offsetOf, startOf}
 use Rattle.frame_tlvs.specs.Tlvs.{walkFrom}
 use Rattle.frame_seek.specs.Seek.{isCut}
@@ -204,7 +204,7 @@ module _ (s : State) (a : Arrival) (w : Octets (a .octets)) where
 
   own-level : OwnLevel s a → Something s (call.frame a)
   own-level l =
-      split (handled (ruleOf (opcode a) .handler))
+      split (ruleOf (opcode a) .handled)
       (λ h.
       let row = handled-row (opcode a) h in
       split (ltb (offsetOf (pdu a)) (row .0))

@@ -9,7 +9,6 @@ use borrow.Author.Tests.{le-leb}
 use Rattle.base_laws.proofs.Tests.{join, known as if-known}
 use Rattle.base_octets.specs.Octets.{Octets}
 use Rattle.base_stamp.specs.Stamps.{good}
-use Rattle.frame_opcodes.specs.declared.Handler.{Handler}
 use Rattle.frame_opcodes.specs.Opcodes.{ruleOf}
 use Rattle.frame_reader_answer.specs.declared.Bad.the-variants.{Offset, CutOff}
 use Rattle.frame_head.specs.Head.{pduOf, opcodeOf, offsetOf, flagsOf, startOf}
@@ -104,11 +103,11 @@ module _ (s : State) (a : Arrival) where
             let m = whole-message (uncut (pdu a) (startOf (pdu a)) n) in
             let no = ours-no s a d in
             ⊎-elim
-            (λ (t : codeGood (ruleOf (opcode a) .handler) (periodCode (flagsOf (pdu a))) ≡ true).
-            found-message (s .settings) (a .octets) (a .receive) (ruleOf (opcode a) .handler) (row-handled h) (m ∙ rw t) ∙ rw no)
-            (λ (t : codeGood (ruleOf (opcode a) .handler) (periodCode (flagsOf (pdu a))) ≡ false).
+            (λ (t : codeGood (ruleOf (opcode a)) (periodCode (flagsOf (pdu a))) ≡ true).
+            found-message (s .settings) (a .octets) (a .receive) (opcode a) (row-handled h) (m ∙ rw t) ∙ rw no)
+            (λ (t : codeGood (ruleOf (opcode a)) (periodCode (flagsOf (pdu a))) ≡ false).
             found-code (s .settings) (a .octets) (a .receive) (row-handled h) (m ∙ rw t) ∙ rw no)
-            (if-known (codeGood (ruleOf (opcode a) .handler) (periodCode (flagsOf (pdu a)))))
+            (if-known (codeGood (ruleOf (opcode a)) (periodCode (flagsOf (pdu a)))))
 
     -- ── a sound message of our level ──
     module _ (q : Sound s a) where
@@ -118,5 +117,5 @@ module _ (s : State) (a : Arrival) where
       pub seventh : judgedOf (opcode a) (flagsOf (pdu a)) ≡ PeriodCode → ownOf (s .settings) (a .octets) (a .receive) ≡ Drops drop.Value
       seventh e = found-code (s .settings) (a .octets) (a .receive) (row-handled (q .handled)) (sound-message ∙ e) ∙ rw (ours-yes s a (q .destination))
 
-      pub handles : (H : Handler) → judgedOf (opcode a) (flagsOf (pdu a)) ≡ Message H → ownOf (s .settings) (a .octets) (a .receive) ≡ handleOf (s .settings) (pdu a) (a .receive) H
-      handles H e = found-message (s .settings) (a .octets) (a .receive) H (row-handled (q .handled)) (sound-message ∙ e) ∙ rw (ours-yes s a (q .destination))
+      pub handles : (k : ℕ) → judgedOf (opcode a) (flagsOf (pdu a)) ≡ Message k → ownOf (s .settings) (a .octets) (a .receive) ≡ handleOf (s .settings) (pdu a) (a .receive) (ruleOf k .handler)
+      handles k e = found-message (s .settings) (a .octets) (a .receive) k (row-handled (q .handled)) (sound-message ∙ e) ∙ rw (ours-yes s a (q .destination))

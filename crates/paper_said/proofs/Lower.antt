@@ -35,11 +35,11 @@ sound-good s a o q = record {
 }
 
 -- the code of a CCM
-coded : (op code : ℕ) → op ≡ 1 → (code ≡ 0 → ⊥) → codeGood (ruleOf op .handler) code ≡ true
+coded : (op code : ℕ) → op ≡ 1 → (code ≡ 0 → ⊥) → codeGood (ruleOf op) code ≡ true
 unfolding ruleOf choose
 coded op code e n = rw (e, ne-eqb code 0 n)
 
-coded-only : (op code : ℕ) → op ≡ 1 → codeGood (ruleOf op .handler) code ≡ true → code ≡ 0 → ⊥
+coded-only : (op code : ℕ) → op ≡ 1 → codeGood (ruleOf op) code ≡ true → code ≡ 0 → ⊥
 unfolding ruleOf choose
 coded-only op code e t z = false≢true (rw (e, eq-eqb code 0 z) at t)
 

@@ -24,7 +24,6 @@ use Rattle.state_view.specs.Changed.{put, heard, withSession}
 use Rattle.state_view.specs.Changed as word
 use Rattle.state_view.specs.WellFormed.{WellFormed, wellFormed}
 use Rattle.state_view.proofs.Rules.{well-formed-is}
-use Rattle.frame_opcodes.specs.declared.Handler.the-variants.{Continuity, Loopback, Alarm, Lock, LossReply, LossRequest, DelayReply, DelayRequest}
 use Rattle.frame_opcodes.specs.Opcodes.{ruleOf}
 use Rattle.frame_head.specs.Head.{etherTypeOf, lengthGood, offsetOf, flagsOf}
 use Rattle.frame_message_answer.specs.declared.MessageAnswer.the-variants.{PeriodCode}
@@ -165,13 +164,13 @@ module _ (s : State) (a : Arrival) where
 
   -- ── rule 5 ──
 
-  tells : (w : OwnLevel s a) (q : Sound s a) (x : Signal) → handleOf (s .settings) (pdu a) (a .receive) Continuity ≡ Changes (change.Told x) → opcode a ≡ 1 → (periodCode (flagsOf (pdu a)) ≡ 0 → ⊥)
+  tells : (w : OwnLevel s a) (q : Sound s a) (x : Signal) → handleOf (s .settings) (pdu a) (a .receive) (ruleOf 1 .handler) ≡ Changes (change.Told x) → opcode a ≡ 1 → (periodCode (flagsOf (pdu a)) ≡ 0 → ⊥)
       → ours s (call.frame a) ≡ leaves call.taken (signalled s x) (a .buffer)
   unfolding carriedOut applied
-  tells w q x e op n = left s a w _ (handles s a w q Continuity (Codes.ccm-good (flagsOf (pdu a)) op n) ∙ e)
+  tells w q x e op n = left s a w _ (handles s a w q 1 (Codes.ccm-good (flagsOf (pdu a)) op n) ∙ e)
 
   signals : (c : OwnCcm s a) (x : Signal) → ccmSignal (s .settings) (pdu a) ≡ x → ours s (call.frame a) ≡ leaves call.taken (signalled s x) (a .buffer)
-  unfolding handleOf
+  unfolding handleOf ruleOf choose
   signals c x e = tells (c .own) (c .good .sound) x (ap (λ (y : Signal). Changes (change.Told y)) e) (c .good .ccm) (c .good .period)
 
   pub mismerge : OwnCcm s a → (megIn (pdu a) ≡ s .settings .meg → ⊥) → ours s (call.frame a) ≡ leaves call.taken (put word.mismerge (hold s) s) (a .buffer)
@@ -194,12 +193,12 @@ module _ (s : State) (a : Arrival) where
   unexpected-period k p n = signals (p .ccm) _ (Peers.signal-period s (p .ccm .own .oam .heeded .well .settings) (pdu a) (p .meg) k (p .peer) n)
 
   pub alarm : (w : OwnLevel s a) (q : Sound s a) → opcode a ≡ 33 → OneOf (code a) (4 ∷ 6 ∷ []) → ours s (call.frame a) ≡ leaves call.taken (put word.ais (holdOf (code a)) s) (a .buffer)
-  unfolding handleOf carriedOut applied signalled
-  alarm w q op o = left s a w _ (handles s a w q Alarm (Codes.ais-good (flagsOf (pdu a)) op o))
+  unfolding handleOf ruleOf choose carriedOut applied signalled
+  alarm w q op o = left s a w _ (handles s a w q 33 (Codes.ais-good (flagsOf (pdu a)) op o))
 
   pub lock : (w : OwnLevel s a) (q : Sound s a) → opcode a ≡ 35 → OneOf (code a) (4 ∷ 6 ∷ []) → ours s (call.frame a) ≡ leaves call.taken (put word.lck (holdOf (code a)) s) (a .buffer)
-  unfolding handleOf carriedOut applied signalled
-  lock w q op o = left s a w _ (handles s a w q Lock (Codes.lck-good (flagsOf (pdu a)) op o))
+  unfolding handleOf ruleOf choose carriedOut applied signalled
+  lock w q op o = left s a w _ (handles s a w q 35 (Codes.lck-good (flagsOf (pdu a)) op o))
 
   -- ── rule 6 ──
 
@@ -224,9 +223,9 @@ module _ (s : State) (a : Arrival) where
   asks : (w : OwnLevel s a) (q : Sound s a) (reply : List ℕ) → made.Reply s a reply
       → (request : Request) × ((ours s (call.frame a) ≡ decided s a (Replies request)) × (cutOff (fixedFor request) (a .octets) ≡ false) × (reply ≡ replyFor s (a .octets) (a .receive) (a .transmit) request))
   unfolding handleOf ruleOf choose
-  asks w q reply (made.lbr e) = (request.Loopback, (left s a w _ (handles s a w q Loopback (Codes.lbm (flagsOf (pdu a)) e)), there (w .oam) q 4 (ap (λ (x : ℕ). ruleOf x .least) e), refl))
-  asks w q reply (made.lmr e) = (request.Loss, (left s a w _ (handles s a w q LossRequest (Codes.lmm (flagsOf (pdu a)) e)), there (w .oam) q 12 (ap (λ (x : ℕ). ruleOf x .least) e), refl))
-  asks w q reply (made.dmr e) = (request.Delay, (left s a w _ (handles s a w q DelayRequest (Codes.dmm (flagsOf (pdu a)) e)), there (w .oam) q 32 (ap (λ (x : ℕ). ruleOf x .least) e), refl))
+  asks w q reply (made.lbr e) = (request.Loopback, (left s a w _ (handles s a w q 3 (Codes.lbm (flagsOf (pdu a)) e)), there (w .oam) q 4 (ap (λ (x : ℕ). ruleOf x .least) e), refl))
+  asks w q reply (made.lmr e) = (request.Loss, (left s a w _ (handles s a w q 43 (Codes.lmm (flagsOf (pdu a)) e)), there (w .oam) q 12 (ap (λ (x : ℕ). ruleOf x .least) e), refl))
+  asks w q reply (made.dmr e) = (request.Delay, (left s a w _ (handles s a w q 47 (Codes.dmm (flagsOf (pdu a)) e)), there (w .oam) q 32 (ap (λ (x : ℕ). ruleOf x .least) e), refl))
 
   pub replies : (w : OwnLevel s a) (q : Sound s a) (reply : List ℕ) → made.Reply s a reply → length reply ≤ length (a .buffer)
       → ours s (call.frame a) ≡ leaves (written (length reply)) s (laid 0 reply (a .buffer))
@@ -241,8 +240,8 @@ module _ (s : State) (a : Arrival) where
   -- ── rule 7 ──
 
   counts : (l : taken.LossReply s a) → ours s (call.frame a) ≡ decided s a (Changes (readingIn (pdu a)))
-  unfolding handleOf
-  counts l = left s a (l .own) _ (handles s a (l .own) (l .sound) LossReply (Codes.lmr (flagsOf (pdu a)) (l .lmr)))
+  unfolding handleOf ruleOf choose
+  counts l = left s a (l .own) _ (handles s a (l .own) (l .sound) 42 (Codes.lmr (flagsOf (pdu a)) (l .lmr)))
 
   session-well : taken.LossReply s a → Session.wellFormed (s .session) ≡ true
   session-well l = Loss.sessions .well (s .session) .1 (l .own .oam .heeded .well .session)
@@ -265,5 +264,5 @@ module _ (s : State) (a : Arrival) where
   -- ── rule 8 ──
 
   pub delay-left : (l : taken.DelayReply s a) (x : DelayAnswer) → Stamps.measured a ≡ x → ours s (call.frame a) ≡ leaves (frameAnswer (delayAnswer x)) s (a .buffer)
-  unfolding handleOf carriedOut
-  delay-left l x e = left s a (l .own) _ (handles s a (l .own) (l .sound) DelayReply (Codes.dmr (flagsOf (pdu a)) (l .dmr)) ∙ ap Delays e)
+  unfolding handleOf ruleOf choose carriedOut
+  delay-left l x e = left s a (l .own) _ (handles s a (l .own) (l .sound) 46 (Codes.dmr (flagsOf (pdu a)) (l .dmr)) ∙ ap Delays e)

@@ -9,7 +9,7 @@ use lib.Seq.{getD-drop}
 use lib.ListN.{length, drop, length-drop}
 use Rattle.base_laws.proofs.Tests.{known as if-known}
 use Rattle.base_octets.specs.Octets.{Octets}
-use Rattle.frame_opcodes.specs.Opcodes.{ruleOf, known}
+use Rattle.frame_opcodes.specs.Opcodes.{ruleOf}
 use Rattle.frame_reader_answer.specs.declared.Bad.the-variants.{Offset, CutOff}
 use Rattle.frame_tlvs.specs.declared.Place.{Place}
 use Rattle.frame_tlvs.specs.declared.Place.the-variants as place
@@ -71,7 +71,7 @@ unless (tlv.Bad b) m e = absurd (false≢true (sym e))
 unless tlv.NoSuch m e = refl
 unless tlv.Value m e = refl
 
-module _ (f : List ℕ) (long : 14 ≤ length f) (most : length f ≤ 1514) (oam : etherTypeOf f ≡ 0x8902) (head : 18 ≤ length f) (k : known (ruleOf (opcodeOf (pduOf f)) .handler) ≡ true) where
+module _ (f : List ℕ) (long : 14 ≤ length f) (most : length f ≤ 1514) (oam : etherTypeOf f ≡ 0x8902) (head : 18 ≤ length f) (k : ruleOf (opcodeOf (pduOf f)) .known ≡ true) where
   four : 4 ≤ length (pduOf f)
   four = rw (length-drop 14 f) (omega arith)
 

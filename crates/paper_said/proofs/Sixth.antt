@@ -17,7 +17,7 @@ use Rattle.receive_decide.specs.Decide.{isOurs}
 use Rattle.paper_said.specs.Calls.{Arrival}
 use Rattle.paper_said.specs.Cases.{opcode, level}
 use Rattle.paper_said.specs.Drops.{GoodDestination, own, group, D6, destination, group-source, stranger}
-use Rattle.paper_said.proofs.Rows.{multicast-yes, multicast-only, request-yes, request-only}
+use Rattle.paper_said.proofs.Rows.{multicast-yes, multicast-only, request-yes, request-only, losspeer-yes, losspeer-only}
 
 -- a test that is not true is false
 untrue : (b : Bool) → (b ≡ true → ⊥) → b ≡ false
@@ -34,7 +34,7 @@ module _ (s : State) (a : Arrival) where
   to = goodDestination (s .settings .own) (ruleOf (opcode a) .multicast) (level a) (destinationOf (a .octets))
 
   abbrev from : Bool
-  from = goodSource (s .settings .losspeer) (opcode a) (ruleOf (opcode a) .request) (sourceOf (a .octets))
+  from = goodSource (s .settings .losspeer) (ruleOf (opcode a) .losspeer) (ruleOf (opcode a) .request) (sourceOf (a .octets))
 
   to-good : GoodDestination s a → to ≡ true
   to-good (own e) = either-true (same (destinationOf (a .octets)) (s .settings .own)) (ruleOf (opcode a) .multicast && same (destinationOf (a .octets)) (multicastOf (level a))) .1 (inl (same-is (destinationOf (a .octets)) (s .settings .own) .1 e))
@@ -56,9 +56,9 @@ module _ (s : State) (a : Arrival) where
       (λ (t : not (ruleOf (opcode a) .request && hasGroupBit (sourceOf (a .octets))) ≡ false).
       let p = split _ _ (not-false _ t) in
       group-source (request-only (opcode a) (p .0)) (eqb-true (groupBit (sourceOf (a .octets))) 1 (p .1)))
-      (λ (t : not (eqb (opcode a) 42 && not (same (sourceOf (a .octets)) (s .settings .losspeer))) ≡ false).
+      (λ (t : not (ruleOf (opcode a) .losspeer && not (same (sourceOf (a .octets)) (s .settings .losspeer))) ≡ false).
       let p = split _ _ (not-false _ t) in
-      stranger (eqb-true (opcode a) 42 (p .0)) (λ h. true≢false (sym (same-is (sourceOf (a .octets)) (s .settings .losspeer) .1 h) ∙ not-true _ (p .1))))
+      stranger (losspeer-only (opcode a) (p .0)) (λ h. true≢false (sym (same-is (sourceOf (a .octets)) (s .settings .losspeer) .1 h) ∙ not-true _ (p .1))))
       (either-fails _ _ e)
 
   pub ours-yes : (D6 s a → ⊥) → isOurs (s .settings .own) (s .settings .losspeer) (a .octets) ≡ true
@@ -72,11 +72,11 @@ module _ (s : State) (a : Arrival) where
   held : D6 s a → to ≡ true → from ≡ true → ⊥
   held (destination n) t u = n (good-to t)
   held (group-source o g) t u =
-      let p = split (not (ruleOf (opcode a) .request && hasGroupBit (sourceOf (a .octets)))) (not (eqb (opcode a) 42 && not (same (sourceOf (a .octets)) (s .settings .losspeer)))) u in
+      let p = split (not (ruleOf (opcode a) .request && hasGroupBit (sourceOf (a .octets)))) (not (ruleOf (opcode a) .losspeer && not (same (sourceOf (a .octets)) (s .settings .losspeer)))) u in
       false≢true (sym (not-true _ (p .0)) ∙ join (ruleOf (opcode a) .request) (hasGroupBit (sourceOf (a .octets))) (request-yes (opcode a) o) (eq-eqb (groupBit (sourceOf (a .octets))) 1 g))
   held (stranger o n) t u =
-      let p = split (not (ruleOf (opcode a) .request && hasGroupBit (sourceOf (a .octets)))) (not (eqb (opcode a) 42 && not (same (sourceOf (a .octets)) (s .settings .losspeer)))) u in
-      false≢true (sym (not-true _ (p .1)) ∙ join (eqb (opcode a) 42) (not (same (sourceOf (a .octets)) (s .settings .losspeer))) (eq-eqb (opcode a) 42 o) (ap not (untrue (same (sourceOf (a .octets)) (s .settings .losspeer)) (λ e. n (same-is (sourceOf (a .octets)) (s .settings .losspeer) .0 e)))))
+      let p = split (not (ruleOf (opcode a) .request && hasGroupBit (sourceOf (a .octets)))) (not (ruleOf (opcode a) .losspeer && not (same (sourceOf (a .octets)) (s .settings .losspeer)))) u in
+      false≢true (sym (not-true _ (p .1)) ∙ join (ruleOf (opcode a) .losspeer) (not (same (sourceOf (a .octets)) (s .settings .losspeer))) (losspeer-yes (opcode a) o) (ap not (untrue (same (sourceOf (a .octets)) (s .settings .losspeer)) (λ e. n (same-is (sourceOf (a .octets)) (s .settings .losspeer) .0 e)))))
 
   pub ours-no : D6 s a → isOurs (s .settings .own) (s .settings .losspeer) (a .octets) ≡ false
   unfolding forUs

@@ -1,16 +1,15 @@
 -- The cases of a frame of our level, from what the code finds. Assumes nothing.
 use Prim.Native.Nat.{ℕ}
 use mathlib.Core.Path.{_≡_, sym, ap, _∙_}
-use mathlib.Core.Bool.{Bool, true, false, cond}
+use mathlib.Core.Bool.{true, false, cond}
 use mathlib.Core.List.{List}
 use Rattle.state_settings.specs.Settings.{Settings}
 use Rattle.base_stamp.specs.declared.Stamp.{Stamp}
 use Rattle.receive_answer.specs.declared.Drop.the-variants as drop
-use Rattle.frame_opcodes.specs.declared.Handler.{Handler}
 use Rattle.frame_opcodes.specs.declared.Rule.{Rule}
 use Rattle.frame_reader_answer.specs.declared.Bad.{Bad}
 use Rattle.frame_head.specs.Head.{pduOf, opcodeOf}
-use Rattle.frame_opcodes.specs.Opcodes.{ruleOf, handled}
+use Rattle.frame_opcodes.specs.Opcodes.{ruleOf}
 use Rattle.frame_message_answer.specs.declared.MessageAnswer.{MessageAnswer}
 use Rattle.frame_message_answer.specs.declared.MessageAnswer.the-variants as message
 use Rattle.frame_message.specs.Message.{messageOf}
@@ -19,28 +18,28 @@ use Rattle.receive_handle.specs.Handle.{handleOf}
 use Rattle.receive_decide.specs.Decide.{isOurs, dropFor, answeredOf, ownOf}
 
 -- the test that was made is the definition's
-pub handled-is : (f p : List ℕ) (r : Rule) (b : Bool) → p ≡ pduOf f → r ≡ ruleOf (opcodeOf p) → b ≡ handled (r .handler) → handled (ruleOf (opcodeOf (pduOf f)) .handler) ≡ b
-handled-is f p r b e g h = sym (h ∙ ap (λ (x : Rule). handled (x .handler)) (g ∙ ap (λ (x : List ℕ). ruleOf (opcodeOf x)) e))
+pub handled-is : (f p : List ℕ) (r : Rule) → p ≡ pduOf f → r ≡ ruleOf (opcodeOf p) → ruleOf (opcodeOf (pduOf f)) .handled ≡ r .handled
+handled-is f p r e g = sym (ap (λ (x : Rule). x .handled) (g ∙ ap (λ (x : List ℕ). ruleOf (opcodeOf x)) e))
 
 module _ (t : Settings) (f : List ℕ) (receive : Stamp) where
-  pub not-handled : handled (ruleOf (opcodeOf (pduOf f)) .handler) ≡ false → ownOf t f receive ≡ Drops drop.Opcode
+  pub not-handled : ruleOf (opcodeOf (pduOf f)) .handled ≡ false → ownOf t f receive ≡ Drops drop.Opcode
   unfolding ownOf
   not-handled h = rw h
 
-  reached : (m : MessageAnswer) → handled (ruleOf (opcodeOf (pduOf f)) .handler) ≡ true → messageOf f ≡ m → ownOf t f receive ≡ answeredOf t f receive m
+  reached : (m : MessageAnswer) → ruleOf (opcodeOf (pduOf f)) .handled ≡ true → messageOf f ≡ m → ownOf t f receive ≡ answeredOf t f receive m
   unfolding ownOf
   reached m h e = rw (h, e)
 
-  pub found-bad : (bad : Bad) → handled (ruleOf (opcodeOf (pduOf f)) .handler) ≡ true → messageOf f ≡ message.Bad bad → ownOf t f receive ≡ Drops (dropFor bad)
+  pub found-bad : (bad : Bad) → ruleOf (opcodeOf (pduOf f)) .handled ≡ true → messageOf f ≡ message.Bad bad → ownOf t f receive ≡ Drops (dropFor bad)
   unfolding answeredOf
   found-bad bad h e = reached (message.Bad bad) h e
 
-  pub found-code : handled (ruleOf (opcodeOf (pduOf f)) .handler) ≡ true → messageOf f ≡ message.PeriodCode
+  pub found-code : ruleOf (opcodeOf (pduOf f)) .handled ≡ true → messageOf f ≡ message.PeriodCode
       → ownOf t f receive ≡ cond (isOurs (t .own) (t .losspeer) f) (Drops drop.Value) (Drops drop.Destination)
   unfolding answeredOf
   found-code h e = reached message.PeriodCode h e
 
-  pub found-message : (handler : Handler) → handled (ruleOf (opcodeOf (pduOf f)) .handler) ≡ true → messageOf f ≡ message.Message handler
-      → ownOf t f receive ≡ cond (isOurs (t .own) (t .losspeer) f) (handleOf t (pduOf f) receive handler) (Drops drop.Destination)
+  pub found-message : (opcode : ℕ) → ruleOf (opcodeOf (pduOf f)) .handled ≡ true → messageOf f ≡ message.Message opcode
+      → ownOf t f receive ≡ cond (isOurs (t .own) (t .losspeer) f) (handleOf t (pduOf f) receive (ruleOf opcode .handler)) (Drops drop.Destination)
   unfolding answeredOf
-  found-message handler h e = reached (message.Message handler) h e
+  found-message opcode h e = reached (message.Message opcode) h e

@@ -10,7 +10,7 @@ use Rattle.receive_answer.specs.declared.Drop.the-variants as drop
 use Rattle.frame_reader_answer.specs.declared.Bad.{Bad}
 use Rattle.frame_reader_answer.specs.declared.Bad.the-variants.{Length, Short, Opcode, Offset, CutOff}
 use Rattle.frame_head.specs.Head.{destinationOf, sourceOf, pduOf, levelOf, opcodeOf}
-use Rattle.frame_opcodes.specs.Opcodes.{ruleOf, handled}
+use Rattle.frame_opcodes.specs.Opcodes.{ruleOf}
 use Rattle.frame_message_answer.specs.declared.MessageAnswer.{MessageAnswer}
 use Rattle.frame_message_answer.specs.declared.MessageAnswer.the-variants as message
 use Rattle.frame_message.specs.Message.{messageOf}
@@ -52,11 +52,11 @@ dropFor CutOff = drop.CutOff
 unfoldable pub answeredOf : Settings → List ℕ → Stamp → MessageAnswer → Decision
 answeredOf t f receive (message.Bad bad) = Drops (dropFor bad)
 answeredOf t f receive message.PeriodCode = cond (isOurs (t .own) (t .losspeer) f) (Drops drop.Value) (Drops drop.Destination)
-answeredOf t f receive (message.Message handler) = cond (isOurs (t .own) (t .losspeer) f) (handleOf t (pduOf f) receive handler) (Drops drop.Destination)
+answeredOf t f receive (message.Message opcode) = cond (isOurs (t .own) (t .losspeer) f) (handleOf t (pduOf f) receive (ruleOf opcode .handler)) (Drops drop.Destination)
 
 -- D3 before them all: the loopback reply, which the reader knows, is not handled
 unfoldable pub ownOf : Settings → List ℕ → Stamp → Decision
-ownOf t f receive = cond (handled (ruleOf (opcodeOf (pduOf f)) .handler)) (answeredOf t f receive (messageOf f)) (Drops drop.Opcode)
+ownOf t f receive = cond (ruleOf (opcodeOf (pduOf f)) .handled) (answeredOf t f receive (messageOf f)) (Drops drop.Opcode)
 
 -- rules 1 to 4, by the frame's class
 unfoldable pub byClass : Settings → Side → List ℕ → Stamp → Class → Decision

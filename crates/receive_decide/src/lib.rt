@@ -14,7 +14,6 @@ use frame_head::source;
 use frame_message::good_opcode;
 use frame_message::message_answer;
 use frame_message_answer::MessageAnswer;
-use frame_opcodes::is_handled;
 use frame_opcodes::rule_of;
 use frame_reader_answer::Bad;
 use receive_answer::Drop;
@@ -83,8 +82,7 @@ fn own_level(set: &Set, names: &Names, ids: &Slots, frame: &[u8], receive: Stamp
 {
     let pdu = pdu_of(frame);
     let rule = rule_of(pdu[1]);
-    let handler = rule.handler;
-    if !is_handled(handler) {
+    if !rule.handled {
         return Decision::Drops(Drop::Opcode);
     }
     let ours = for_us(names, frame);

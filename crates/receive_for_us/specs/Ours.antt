@@ -16,10 +16,10 @@ hasGroupBit address = eqb (getD address 0 0 % 2) 1
 abbrev pub goodDestination : List ℕ → Bool → ℕ → List ℕ → Bool
 goodDestination own multicast level destination = same destination own || (multicast && same destination (multicastOf level))
 
-abbrev pub goodSource : List ℕ → ℕ → Bool → List ℕ → Bool
-goodSource losspeer opcode request source = not (request && hasGroupBit source) && not (eqb opcode 42 && not (same source losspeer))
+abbrev pub goodSource : List ℕ → Bool → Bool → List ℕ → Bool
+goodSource losspeer only request source = not (request && hasGroupBit source) && not (only && not (same source losspeer))
 
 -- not D6
 unfoldable pub forUs : List ℕ → List ℕ → ℕ → ℕ → List ℕ → List ℕ → Bool
 forUs own losspeer opcode level destination source =
-    goodDestination own (ruleOf opcode .multicast) level destination && goodSource losspeer opcode (ruleOf opcode .request) source
+    goodDestination own (ruleOf opcode .multicast) level destination && goodSource losspeer (ruleOf opcode .losspeer) (ruleOf opcode .request) source

@@ -6,9 +6,6 @@ use base_compare::same_octets;
 use frame_multicast::is_multicast;
 use frame_opcodes::rule_of;
 
-// The opcode of a loss reply, the one message that only the loss peer may send.
-const LMR: u8 = 42;
-
 // Whether an address is a group's: the lowest bit of its first octet.
 fn has_group_bit(address: &[u8]) -> bool
     ensures { λ r. ⌜ r ≡ hasGroupBit (now (address .entry)) ⌝ }
@@ -26,12 +23,12 @@ fn good_destination(own: &[u8], multicast: bool, level: u32, destination: &[u8])
     same_octets(destination, own) | (multicast & is_multicast(destination, level))
 }
 
-// Whether a source is good: a request is not from a group, a loss reply is from the loss peer.
-fn good_source(losspeer: &[u8], opcode: u8, request: bool, source: &[u8]) -> bool
-    ensures { λ r. ⌜ r ≡ goodSource (now (losspeer .entry)) opcode request (now (source .entry)) ⌝ }
+// Whether a source is good: a request is not from a group, what only the loss peer may send is from it.
+fn good_source(losspeer: &[u8], only: bool, request: bool, source: &[u8]) -> bool
+    ensures { λ r. ⌜ r ≡ goodSource (now (losspeer .entry)) only request (now (source .entry)) ⌝ }
 {
     let stranger = !same_octets(source, losspeer);
-    !(request & has_group_bit(source)) & !((opcode == LMR) & stranger)
+    !(request & has_group_bit(source)) & !(only & stranger)
 }
 
 // Tells whether a frame of this opcode and level, with these addresses, is for a box of these addresses.
@@ -47,5 +44,5 @@ pub fn is_for_us(
 {
     let rule = rule_of(opcode);
     let to = good_destination(own, rule.multicast, level, destination);
-    to & good_source(losspeer, opcode, rule.request, source)
+    to & good_source(losspeer, rule.losspeer, rule.request, source)
 }

@@ -1,6 +1,6 @@
 -- What a good message for us does. The paper, rule 5: CCM, AIS and LCK; rule 6: which are answered; rule 7:
 -- the counts of an LMR; rule 8: the delays of a DMR. Definitions only.
-use Prim.Native.Nat.{ℕ}
+use Prim.Native.Nat.{ℕ, _+_}
 use mathlib.Core.Bool.{cond}
 use mathlib.Core.List.{List}
 use lib.Dec.{ltb}
@@ -11,6 +11,7 @@ use Rattle.receive_delay.specs.Delays.{delaysOf}
 use Rattle.receive_answer.specs.declared.Drop.the-variants as drop
 use Rattle.frame_opcodes.specs.declared.Handler.{Handler}
 use Rattle.frame_opcodes.specs.declared.Handler.the-variants.{Nobody, ReaderOnly, Continuity, Loopback, Alarm, Lock, LossReply, LossRequest, DelayReply, DelayRequest}
+use Rattle.frame_opcodes.specs.Opcodes.{ruleOf}
 use Rattle.frame_head.specs.Head.{flagsOf, word}
 use Rattle.frame_message.specs.Message.{periodCode}
 use Rattle.frame_measures.specs.Measures.{stamp}
@@ -26,19 +27,6 @@ use Rattle.receive_handle.specs.declared.Decision.the-variants.{Drops, C
 abbrev pub readingIn : List ℕ → Change
 readingIn p = change.Reading (word 4 p) (word 8 p) (word 12 p)
 
--- how many octets of the PDU a handler reads
-unfoldable pub roomFor : Handler → ℕ
-roomFor Nobody = 0
-roomFor ReaderOnly = 0
-roomFor Continuity = 0
-roomFor Loopback = 0
-roomFor Alarm = 4
-roomFor Lock = 4
-roomFor LossReply = 16
-roomFor LossRequest = 0
-roomFor DelayReply = 28
-roomFor DelayRequest = 0
-
 unfoldable pub handleOf : Settings → List ℕ → Stamp → Handler → Decision
 handleOf t p receive Nobody = Drops drop.Opcode
 handleOf t p receive ReaderOnly = Drops drop.Opcode
@@ -51,6 +39,6 @@ handleOf t p receive LossRequest = Replies request.Loss
 handleOf t p receive DelayReply = Delays (delaysOf (stamp 4 p) (stamp 12 p) (stamp 20 p) receive)
 handleOf t p receive DelayRequest = Replies request.Delay
 
--- D5 where they are not all there; a good message has them (`receive_decide`), so it is never dropped for that
-abbrev pub handledOf : Settings → List ℕ → Stamp → Handler → Decision
-handledOf t p receive handler = cond (ltb (length p) (roomFor handler)) (Drops drop.CutOff) (handleOf t p receive handler)
+-- D5 where the fixed part is not all there; a good message has it (`receive_decide`), so it is never dropped for that
+abbrev pub handledOf : Settings → List ℕ → Stamp → ℕ → Decision
+handledOf t p receive opcode = cond (ltb (length p) (4 + ruleOf opcode .least)) (Drops drop.CutOff) (handleOf t p receive (ruleOf opcode .handler))

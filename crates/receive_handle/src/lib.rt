@@ -6,11 +6,12 @@ ghost use lib.ListN.{length};
 ghost use Rattle.receive_delay.specs.Delays.{delaysOf};
 ghost use Rattle.frame_measures.specs.Measures.{stamp};
 ghost use Rattle.state_settings.specs.Settings.{lentSettings};
-ghost use Rattle.receive_handle.specs.Handle.{roomFor, readingIn, handleOf, handledOf};
+ghost use Rattle.receive_handle.specs.Handle.{readingIn, handledOf};
 use base_bits::period_code_of;
 use base_numbers::read_big;
 use base_stamp::Stamp;
 use frame_opcodes::Handler;
+use frame_opcodes::rule_of;
 use receive_answer::Drop;
 use receive_change::Change;
 use receive_delay::DelayAnswer;
@@ -72,18 +73,22 @@ fn delays_in(pdu: &[u8], receive: Stamp) -> DelayAnswer
     )
 }
 
-// A message that has the octets which its handler reads.
-fn handle(
+// A message for us, by who handles it. A good one has its fixed part, so it is never cut off here.
+pub fn handle_message(
     set: &Set,
     names: &Names,
     ids: &Slots,
     pdu: &[u8],
     receive: Stamp,
-    handler: Handler,
+    opcode: u8,
 ) -> Decision
-    requires { ⌜ roomFor handler ≤ length (now pdu) ⌝ }
-    ensures { λ r. ⌜ r ≡ handleOf (lentSettings set names ids) (now (pdu .entry)) receive handler ⌝ }
+    ensures { λ r. ⌜ r ≡ handledOf (lentSettings set names ids) (now (pdu .entry)) receive opcode ⌝ }
 {
+    let rule = rule_of(opcode);
+    if pdu.len() < 4 + rule.least {
+        return Decision::Drops(Drop::CutOff);
+    }
+    let handler = rule.handler;
     match handler {
         Handler::Nobody => Decision::Drops(Drop::Opcode),
         Handler::ReaderOnly => Decision::Drops(Drop::Opcode),
@@ -100,39 +105,4 @@ fn handle(
         Handler::DelayReply => Decision::Delays(delays_in(pdu, receive)),
         Handler::DelayRequest => Decision::Replies(Request::Delay),
     }
-}
-
-// How many octets of the PDU a handler reads.
-fn room_for(handler: Handler) -> usize
-    ensures { λ r. ⌜ r ≡ roomFor handler ⌝ }
-{
-    match handler {
-        Handler::Nobody => 0,
-        Handler::ReaderOnly => 0,
-        Handler::Continuity => 0,
-        Handler::Loopback => 0,
-        Handler::Alarm => 4,
-        Handler::Lock => 4,
-        Handler::LossReply => 16,
-        Handler::LossRequest => 0,
-        Handler::DelayReply => 28,
-        Handler::DelayRequest => 0,
-    }
-}
-
-// A message for us, by who handles it. A good one has the octets that its handler reads, so it is never cut off here.
-pub fn handle_message(
-    set: &Set,
-    names: &Names,
-    ids: &Slots,
-    pdu: &[u8],
-    receive: Stamp,
-    handler: Handler,
-) -> Decision
-    ensures { λ r. ⌜ r ≡ handledOf (lentSettings set names ids) (now (pdu .entry)) receive handler ⌝ }
-{
-    if pdu.len() < room_for(handler) {
-        return Decision::Drops(Drop::CutOff);
-    }
-    handle(set, names, ids, pdu, receive, handler)
 }

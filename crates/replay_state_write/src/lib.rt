@@ -47,7 +47,9 @@ fn write_words(into: &mut [u8], at: usize, n: usize, words: &[u32])
 fn write_running(into: &mut [u8], timers: &[u32], rdi: &[u32], run: &Run)
     requires { ⌜ (157 ≤ length (now into)) × (length (now timers) ≡ slots) × (length (now rdi) ≡ slots) ⌝ }
     ensures { λ _. ⌜ now (into .exit) ≡
-        laid 81 (runningOctets (getD (now (run .entry)) 7 0 ∷ getD (now (run .entry)) 8 0 ∷ []) (now (timers .entry)) (now (rdi .entry)) (getD (now (run .entry)) 0 0 ∷ getD (now (run .entry)) 2 0 ∷ getD (now (run .entry)) 3 0 ∷ getD (now (run .entry)) 1 0 ∷ getD (now (run .entry)) 4 0 ∷ getD (now (run .entry)) 5 0 ∷ getD (now (run .entry)) 6 0 ∷ [])) (now (into .entry)) ⌝ }
+        laid 81 (runningOctets (getD (now (run .entry)) 7 0 ∷ getD (now (run .entry)) 8 0 ∷ []) (now (timers .entry)) (now (rdi .entry))
+        (getD (now (run .entry)) 0 0 ∷ getD (now (run .entry)) 2 0 ∷ getD (now (run .entry)) 3 0
+        ∷ getD (now (run .entry)) 1 0 ∷ getD (now (run .entry)) 4 0 ∷ getD (now (run .entry)) 5 0 ∷ getD (now (run .entry)) 6 0 ∷ [])) (now (into .entry)) ⌝ }
 {
     let counts = [run[SENT], run[RECEIVED]];
     let others = [

@@ -61,7 +61,8 @@ pub record Months : Type 0 where
   -- of true counts that neither fall nor grow by 2^32 between two replies, every reply is taken, and the account's lines are written
   pub taken : (ts : List Counts) → length ts ≤ mostReadings → Steady ts
       → (recounted (rawReplies (map shown ts)) .halted ≡ 0) × (recounted (rawReplies (map shown ts)) .taken ≡ length ts)
-  pub written : (ts : List Counts) → length ts ≤ mostReadings → Steady ts → recounted (rawReplies (map shown ts)) .records ≡ recordsOf (accountLines [] ts)
+  pub written : (ts : List Counts) → length ts ≤ mostReadings → Steady ts
+      → recounted (rawReplies (map shown ts)) .records ≡ recordsOf (accountLines [] ts)
   -- and the sheet of them is the account's sheet
   pub sheet : (ts : List Counts) → length ts ≤ mostReadings → Steady ts
       → sheetOf (recounted (rawReplies (map shown ts)) .records) ≡ headerText ++ textsOf (accountLines [] ts)

@@ -1,8 +1,14 @@
 -- `call_send_lmm::send_lmm` meets its contract: one law for each way that the call ends.
 use denote.Ref.{now}
 use Rattle.state_view.specs.State.{lying}
-use Rattle.call_send_lmm.specs.Lmm.{lmmOf}
-use Rattle.call_send_lmm.proofs.Lmm.{ends-2, ends-3, ends-sent}
+use Rattle.state_view.specs.WellFormed.{wellFormed}
+use Rattle.message_requests.specs.Requests.{lmmLength}
+use Rattle.call_send_answer.specs.declared.LmmAnswer.the-variants.{Sent}
+use Rattle.call_send_answer.specs.Told.{lmmTold}
+use Rattle.call_send_answer.proofs.Sender.{taken, left, short, sent}
+use Rattle.call_send_answer.proofs.Said.{outcome}
+use Rattle.call_send_lmm.specs.Lmm.{lmmOf, sendLmm}
+use Rattle.call_send_lmm.proofs.Lmm.{agree}
 use borrow.Author.Needs.{needs}
 use Rattle.call_send_lmm.proofs.send_lmm.Statement.{statement}
 use Rattle.call_send_lmm.proofs.send_lmm.Tie as tie
@@ -11,10 +17,11 @@ is-well-formed-requires : tie.Need-is-well-formed-requires
 is-well-formed-requires c κs = search needs
 
 returns : tie.Need-returns
+unfolding sendLmm
 returns c =
     let a = c .before .before .before .args in
     let s = lying (a .set) (a .names) (a .ids) (a .timers) (a .rdi) (a .run) (a .totals) in
-    ends-2 s (now (a .out)) (c .before .is-well-formed .ensures) (c .if1 .taken)
+    outcome lmmTold (agree s (now (a .out))) (taken {t = wellFormed s} (c .before .is-well-formed .ensures) (c .if1 .taken) .is)
 
 element-copy-out-write-lmm : tie.Need-element-copy-out-write-lmm
 element-copy-out-write-lmm c = search needs
@@ -35,23 +42,29 @@ same-length : tie.Need-same-length
 same-length c = search needs
 
 returns-2 : tie.Need-returns-2
-unfolding lmmOf
+unfolding lmmOf sendLmm
 returns-2 c =
-    let a = c .before .before .before .before .before .before .before .before .before .before .before .args in
+    let test = c .before .before .before .before .before .before .before .before in
+    let a = test .before .before .before .args in
     let s = lying (a .set) (a .names) (a .ids) (a .timers) (a .rdi) (a .run) (a .totals) in
     let w = c .before .before .before .before .write-lmm .ensures in
-    ends-3 s (now (a .out)) (c .before .before .before .before .before .before .before .before .before .is-well-formed .ensures) (c .before .before .before .before .before .before .before .before .if1 .left) (w .1 .1) (w .0 .0) (w .1 .0) (c .enum-told .given .1)
+    outcome lmmTold (agree s (now (a .out)))
+    (left {t = wellFormed s} (test .before .is-well-formed .ensures) (test .if1 .left)
+    (short (lmmOf s) (now (a .out)) lmmLength (w .1 .1) (w .0 .0) (w .1 .0) (c .enum-told .given .1)) .is)
 
 same-length-2 : tie.Need-same-length-2
 same-length-2 c = search needs
 
 returns-3 : tie.Need-returns-3
-unfolding lmmOf
+unfolding lmmOf sendLmm
 returns-3 c =
-    let a = c .before .before .before .before .before .before .before .before .before .before .before .before .args in
+    let test = c .before .before .before .before .before .before .before .before .before in
+    let a = test .before .before .before .args in
     let s = lying (a .set) (a .names) (a .ids) (a .timers) (a .rdi) (a .run) (a .totals) in
     let w = c .before .before .before .before .before .write-lmm .ensures in
-    ends-sent s (now (a .out)) (c .before .before .before .before .before .before .before .before .before .before .is-well-formed .ensures) (c .before .before .before .before .before .before .before .before .before .if1 .left) (w .1 .1) (w .0 .0) (w .1 .0) (c .before .written .given .1)
+    outcome lmmTold (agree s (now (a .out)))
+    (left {t = wellFormed s} (test .before .is-well-formed .ensures) (test .if1 .left)
+    (sent (lmmOf s) (now (a .out)) lmmLength (w .1 .1) (w .0 .0) (w .1 .0) Sent (c .before .written .given .1)) .is)
 
 pub send-lmm-spec : {M : Type 1} → statement M
 send-lmm-spec =

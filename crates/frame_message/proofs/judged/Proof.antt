@@ -1,4 +1,4 @@
--- `frame_message::judged` meets its contract: the handler where the code is good, else D7.
+-- `frame_message::judged` meets its contract: the opcode where the code is good, else D7.
 use mathlib.Core.Bool.{Bool, cond}
 use Prim.Native.Nat.{ℕ}
 use mathlib.Core.Path.{_≡_, sym, ap, _∙_}
@@ -11,8 +11,8 @@ use Rattle.frame_message.proofs.judged.Statement.{statement}
 use Rattle.frame_message.proofs.judged.Tie as tie
 
 -- the rule, the code and the test that were found are the definition's
-judged-is : (op flags : ℕ) (r : Rule) (k : ℕ) (b : Bool) → r ≡ ruleOf op → k ≡ periodCode flags → b ≡ codeGood (r .handler) k
-    → cond b (Message (r .handler)) PeriodCode ≡ judgedOf op flags
+judged-is : (op flags : ℕ) (r : Rule) (k : ℕ) (b : Bool) → r ≡ ruleOf op → k ≡ periodCode flags → b ≡ codeGood r k
+    → cond b (Message op) PeriodCode ≡ judgedOf op flags
 unfolding judgedOf
 judged-is op flags r k b e f g = rw (g, f, e)
 
@@ -27,12 +27,14 @@ code-good-requires c κs = search needs
 
 returns : tie.Need-returns
 returns c = let m = c .before .before .before .rule-of in
-    ap (λ (b : Bool). cond b (Message (m .result .handler)) PeriodCode) (sym (c .if1 .taken))
+    let op = c .before .before .before .before .args .opcode in
+    ap (λ (b : Bool). cond b (Message op) PeriodCode) (sym (c .if1 .taken))
     ∙ judged-is _ _ (m .result) _ _ (m .ensures) (c .before .before .period-code-of .ensures) (c .before .code-good .ensures)
 
 returns-2 : tie.Need-returns-2
 returns-2 c = let m = c .before .before .before .rule-of in
-    ap (λ (b : Bool). cond b (Message (m .result .handler)) PeriodCode) (sym (c .if1 .left))
+    let op = c .before .before .before .before .args .opcode in
+    ap (λ (b : Bool). cond b (Message op) PeriodCode) (sym (c .if1 .left))
     ∙ judged-is _ _ (m .result) _ _ (m .ensures) (c .before .before .period-code-of .ensures) (c .before .code-good .ensures)
 
 pub judged-spec : {M : Type 1} → statement M

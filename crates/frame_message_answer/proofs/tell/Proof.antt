@@ -10,8 +10,8 @@ use Rattle.frame_message_answer.proofs.tell.Tie as tie
 enum-known-answer : tie.Need-enum-known-answer
 enum-known-answer c = search needs
 
-opcode-for-requires : tie.Need-opcode-for-requires
-opcode-for-requires c κs = search needs
+cast-t6 : tie.Need-cast-t6
+cast-t6 c = search needs
 
 enum-told : tie.Need-enum-told
 enum-told c = search needs
@@ -24,7 +24,7 @@ tell-requires c κs = search needs
 
 returns : tie.Need-returns
 unfolding told
-returns c = ap (numbers 0 0) (c .opcode-for .ensures) ∙ sym (ap told (c .before .before .answer .given .1))
+returns c = sym (ap told (c .before .answer .given .1))
 
 returns-2 : tie.Need-returns-2
 unfolding told
@@ -39,7 +39,7 @@ tell-spec =
     tie.close
     (tie.spec
     enum-known-answer
-    opcode-for-requires
+    cast-t6
     enum-told
     enum-known-answer-2
     tell-requires

@@ -45,7 +45,7 @@ returns c = let source = c .before .before in
     let whole = destination .before .before .before .before .before in
     let s = whole .before .before .before .before in
     let a = s .args in
-    reply-laid (a .t3) (now (a .request)) (now (a .into)) (six s) (omega arith) (a .opcode) (omega arith)
+    reply-laid (a .t3) (now (a .request)) (six s) (a .opcode) (omega arith) (now (a .into)) (omega arith)
     (whole .copy-octets .ensures)
     (destination .copy-octets2 .ensures)
     (source .copy-octets3 .ensures)

@@ -8,10 +8,11 @@ use Prim.Native.Nat.{ℕ, _≤_}
 use mathlib.Core.List.{List}
 use lib.ListN.{length-drop}
 use Rattle.state_settings.specs.Settings.{settingsOf}
+use Rattle.frame_opcodes.specs.Opcodes.{ruleOf}
 use Rattle.receive_handle.specs.declared.Decision.the-variants.{Drops}
 use Rattle.receive_handle.specs.Handle.{handleOf}
 use Rattle.receive_handle.proofs.Handled.{handled-whole}
-use Rattle.receive_decide.proofs.Messages.{room}
+use Rattle.receive_decide.proofs.Messages.{whole}
 use Rattle.receive_decide.proofs.Own.{handled-is, not-handled, found-bad, found-code, found-message}
 use borrow.Author.Needs.{needs}
 use Rattle.receive_decide.proofs.own_level.Statement.{statement}
@@ -29,14 +30,11 @@ shared-slice-read-rule-of c = let f = now (c .before .before .before .args .fram
 rule-of-requires : tie.Need-rule-of-requires
 rule-of-requires c κs = search needs
 
-is-handled-requires : tie.Need-is-handled-requires
-is-handled-requires c κs = search needs
-
 returns : tie.Need-returns
 returns c = let a = c .before .before .before .before .before .before .args in
     let t = settingsOf (now (a .set)) (now (a .names)) (now (a .ids)) in
     let f = now (a .frame) in
-    sym (not-handled t f (a .receive) ((handled-is f _ _ _ (c .before .before .before .before .pdu-of .ensures .0) (c .before .before .rule-of .ensures) (c .before .is-handled .ensures)) ∙ not-true _ (c .if1 .taken)))
+    sym (not-handled t f (a .receive) ((handled-is f _ _ (c .before .before .before .before .pdu-of .ensures .0) (c .before .before .rule-of .ensures)) ∙ not-true _ (c .if1 .taken)))
 
 for-us-requires : tie.Need-for-us-requires
 for-us-requires c κs = search needs
@@ -63,33 +61,38 @@ returns-2 : tie.Need-returns-2
 returns-2 c = let a = c .before .before .before .before .before .before .before .before .before .before .before .before .args in
     let t = settingsOf (now (a .set)) (now (a .names)) (now (a .ids)) in
     let f = now (a .frame) in
-    ap Drops (c .drop-for .ensures) ∙ sym (found-bad t f (a .receive) _ ((handled-is f _ _ _ (c .before .before .before .before .before .before .before .before .before .before .pdu-of .ensures .0) (c .before .before .before .before .before .before .before .before .rule-of .ensures) (c .before .before .before .before .before .before .before .is-handled .ensures)) ∙ not-false _ (c .before .before .before .before .before .before .if1 .left)) (sym (c .before .before .before .before .message-answer .ensures .0) ∙ c .before .before .bad .given .1))
+    ap Drops (c .drop-for .ensures) ∙ sym (found-bad t f (a .receive) _ ((handled-is f _ _ (c .before .before .before .before .before .before .before .before .before .before .pdu-of .ensures .0) (c .before .before .before .before .before .before .before .before .rule-of .ensures)) ∙ not-false _ (c .before .before .before .before .before .before .if1 .left)) (sym (c .before .before .before .before .message-answer .ensures .0) ∙ c .before .before .bad .given .1))
 
 returns-3 : tie.Need-returns-3
 returns-3 c = let a = c .before .before .before .before .before .before .before .before .before .before .before .args in
     let t = settingsOf (now (a .set)) (now (a .names)) (now (a .ids)) in
     let f = now (a .frame) in
-    sym (found-code t f (a .receive) ((handled-is f _ _ _ (c .before .before .before .before .before .before .before .before .before .pdu-of .ensures .0) (c .before .before .before .before .before .before .before .rule-of .ensures) (c .before .before .before .before .before .before .is-handled .ensures)) ∙ not-false _ (c .before .before .before .before .before .if1 .left)) (sym (c .before .before .before .message-answer .ensures .0) ∙ c .before .enum-told .given .1) ∙ rw (sym (c .before .before .before .before .for-us .ensures) ∙ c .if2 .taken))
+    sym (found-code t f (a .receive) ((handled-is f _ _ (c .before .before .before .before .before .before .before .before .before .pdu-of .ensures .0) (c .before .before .before .before .before .before .before .rule-of .ensures)) ∙ not-false _ (c .before .before .before .before .before .if1 .left)) (sym (c .before .before .before .message-answer .ensures .0) ∙ c .before .enum-told .given .1) ∙ rw (sym (c .before .before .before .before .for-us .ensures) ∙ c .if2 .taken))
 
 returns-4 : tie.Need-returns-4
 returns-4 c = let a = c .before .before .before .before .before .before .before .before .before .before .before .args in
     let t = settingsOf (now (a .set)) (now (a .names)) (now (a .ids)) in
     let f = now (a .frame) in
-    sym (found-code t f (a .receive) ((handled-is f _ _ _ (c .before .before .before .before .before .before .before .before .before .pdu-of .ensures .0) (c .before .before .before .before .before .before .before .rule-of .ensures) (c .before .before .before .before .before .before .is-handled .ensures)) ∙ not-false _ (c .before .before .before .before .before .if1 .left)) (sym (c .before .before .before .message-answer .ensures .0) ∙ c .before .enum-told .given .1) ∙ rw (sym (c .before .before .before .before .for-us .ensures) ∙ c .if2 .left))
+    sym (found-code t f (a .receive) ((handled-is f _ _ (c .before .before .before .before .before .before .before .before .before .pdu-of .ensures .0) (c .before .before .before .before .before .before .before .rule-of .ensures)) ∙ not-false _ (c .before .before .before .before .before .if1 .left)) (sym (c .before .before .before .message-answer .ensures .0) ∙ c .before .enum-told .given .1) ∙ rw (sym (c .before .before .before .before .for-us .ensures) ∙ c .if2 .left))
 
 returns-5 : tie.Need-returns-5
 returns-5 c = let a = c .before .before .before .before .before .before .before .before .before .before .before .before .before .args in
     let t = settingsOf (now (a .set)) (now (a .names)) (now (a .ids)) in
     let f = now (a .frame) in
     let pdu = c .before .before .before .before .before .before .before .before .before .before .before .pdu-of in
-    let whole = room f _ (sym (c .before .before .before .before .before .message-answer .ensures .0) ∙ c .before .before .before .found .given .1) in
-    c .handle-message .ensures ∙ handled-whole t (now (pdu .result)) (a .receive) (c .before .before .before .found .given .0 .0) (omega (arith, whole, ap length (pdu .ensures .0))) ∙ ap (λ (p : List ℕ). handleOf t p (a .receive) (c .before .before .before .found .given .0 .0)) (c .before .before .before .before .before .before .before .before .before .before .before .pdu-of .ensures .0) ∙ sym (found-message t f (a .receive) (c .before .before .before .found .given .0 .0) ((handled-is f _ _ _ (c .before .before .before .before .before .before .before .before .before .before .before .pdu-of .ensures .0) (c .before .before .before .before .before .before .before .before .before .rule-of .ensures) (c .before .before .before .before .before .before .before .before .is-handled .ensures)) ∙ not-false _ (c .before .before .before .before .before .before .before .if1 .left)) (sym (c .before .before .before .before .before .message-answer .ensures .0) ∙ c .before .before .before .found .given .1) ∙ rw (sym (c .before .before .before .before .before .before .for-us .ensures) ∙ c .before .if3 .taken))
+    let op = c .before .before .before .found .given .0 .0 in
+    let is = sym (c .before .before .before .before .before .message-answer .ensures .0) ∙ c .before .before .before .found .given .1 in
+    let row = handled-is f _ _ (pdu .ensures .0) (c .before .before .before .before .before .before .before .before .before .rule-of .ensures) in
+    c .handle-message .ensures
+    ∙ handled-whole t (now (pdu .result)) (a .receive) op (omega (arith, whole f _ is, ap length (pdu .ensures .0)))
+    ∙ ap (λ (p : List ℕ). handleOf t p (a .receive) (ruleOf op .handler)) (pdu .ensures .0)
+    ∙ sym (found-message t f (a .receive) op (row ∙ not-false _ (c .before .before .before .before .before .before .before .if1 .left)) is ∙ rw (sym (c .before .before .before .before .before .before .for-us .ensures) ∙ c .before .if3 .taken))
 
 returns-6 : tie.Need-returns-6
 returns-6 c = let a = c .before .before .before .before .before .before .before .before .before .before .before .before .args in
     let t = settingsOf (now (a .set)) (now (a .names)) (now (a .ids)) in
     let f = now (a .frame) in
-    sym (found-message t f (a .receive) _ ((handled-is f _ _ _ (c .before .before .before .before .before .before .before .before .before .before .pdu-of .ensures .0) (c .before .before .before .before .before .before .before .before .rule-of .ensures) (c .before .before .before .before .before .before .before .is-handled .ensures)) ∙ not-false _ (c .before .before .before .before .before .before .if1 .left)) (sym (c .before .before .before .before .message-answer .ensures .0) ∙ c .before .before .found .given .1) ∙ rw (sym (c .before .before .before .before .before .for-us .ensures) ∙ c .if3 .left))
+    sym (found-message t f (a .receive) _ ((handled-is f _ _ (c .before .before .before .before .before .before .before .before .before .before .pdu-of .ensures .0) (c .before .before .before .before .before .before .before .before .rule-of .ensures)) ∙ not-false _ (c .before .before .before .before .before .before .if1 .left)) (sym (c .before .before .before .before .message-answer .ensures .0) ∙ c .before .before .found .given .1) ∙ rw (sym (c .before .before .before .before .before .for-us .ensures) ∙ c .if3 .left))
 
 pub own-level-spec : {M : Type 1} → statement M
 own-level-spec =
@@ -98,7 +101,6 @@ own-level-spec =
     pdu-of-requires
     shared-slice-read-rule-of
     rule-of-requires
-    is-handled-requires
     returns
     for-us-requires
     message-answer-requires

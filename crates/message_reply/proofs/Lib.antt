@@ -1,4 +1,5 @@
 pub mod Laid
 pub mod Numbers
 pub mod One
+pub mod Room
 pub mod Over

@@ -7,8 +7,9 @@ use native.Mathlib.Omega.{arith}
 use lib.ListN.{length}
 use Rattle.base_laws.specs.Lists.{laid}
 use Rattle.message_reply.specs.declared.Replied.the-variants.{CutOff, NoRoom, Octets}
-use Rattle.message_reply.specs.Replies.{replyOctets}
+use Rattle.message_reply.specs.Replies.{replyOctets, replyInto}
 use Rattle.message_reply.proofs.Laid.{over, Within, over-long, over-laid, reply-long}
+use Rattle.message_reply.proofs.Room.{into-room}
 use Rattle.message_reply.proofs.Numbers as case
 use Rattle.message_reply.proofs.Numbers.{Answered}
 
@@ -30,9 +31,9 @@ module _ (own request : List ℕ) (six : length own ≡ 6) (opcode fixed : ℕ) 
       pub no-room : length l < length request → Answered fixed request reply l NoRoom l
       no-room = case.no-room fixed request reply l whole (as-long whole)
 
-      pub written : {x z : List ℕ} → length request ≤ length l → x ≡ laid 0 (replyOctets own opcode request) l → z ≡ over pieces x
+      pub written : {x z : List ℕ} → length request ≤ length l → x ≡ replyInto own opcode request l → z ≡ over pieces x
           → Answered fixed request reply l (Octets (length request)) z
       written {z = z} room e f =
           let long = reply-long own request six opcode (omega arith) in
           let all = over-laid pieces (replyOctets own opcode request) l fits (omega arith) (omega arith) in
-          case.room fixed request reply l whole (as-long whole) z room (f ∙ ap (over pieces) e ∙ all)
+          case.room fixed request reply l whole (as-long whole) z room (f ∙ ap (over pieces) (e ∙ into-room own opcode request l (omega arith) room) ∙ all)

@@ -1,16 +1,15 @@
 // What the replies share: the request with other addresses and another opcode, and what writing a reply is answered.
-// A reply is made of what is given and of no state. Inner: the rooms of the replies meet the `requires`.
+// A reply is made of what is given and of no state. Nothing is asked of the caller.
 ghost use mathlib.Core.Path.{_≡_};
-ghost use Prim.Native.Nat.{_≤_};
-ghost use lib.ListN.{length};
-ghost use Rattle.base_laws.specs.Lists.{laid};
-ghost use Rattle.frame_head.specs.Head.{behindHead};
-ghost use Rattle.message_reply.specs.Replies.{replyOctets};
+ghost use Rattle.message_reply.specs.Replies.{replyInto};
 use base_octets::copy_octets;
 use frame_head::HEAD_LENGTH;
 
 // The opcode's place in a frame.
 const OPCODE: usize = HEAD_LENGTH + 1;
+
+// Where the PDU's first four octets end, the opcode among them.
+const PDU_HEAD_END: usize = HEAD_LENGTH + 4;
 
 // What writing a reply is answered.
 pub enum Replied {
@@ -22,11 +21,17 @@ pub enum Replied {
     Octets(usize),
 }
 
-// Writes the request with its source as destination, our address as source, and another opcode.
+// Writes the request with its source as destination, our address as source, and another opcode. Where the request has no opcode, or the
+// buffer no room for it, the buffer stays as it was: the writers of replies have refused both before.
 pub fn write_reply(into: &mut [u8], request: &[u8], own: [u8; 6], opcode: u8)
-    requires { ⌜ (behindHead 4 ≤ length (now request)) × (length (now request) ≤ length (now into)) ⌝ }
-    ensures { λ _. ⌜ now (into .exit) ≡ laid 0 (replyOctets own opcode (now (request .entry))) (now (into .entry)) ⌝ }
+    ensures { λ _. ⌜ now (into .exit) ≡ replyInto own opcode (now (request .entry)) (now (into .entry)) ⌝ }
 {
+    if request.len() < PDU_HEAD_END {
+        return;
+    }
+    if into.len() < request.len() {
+        return;
+    }
     copy_octets(into, 0, request);
     copy_octets(into, 0, &request[6..12]);
     copy_octets(into, 6, &own);

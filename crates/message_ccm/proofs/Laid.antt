@@ -33,14 +33,6 @@ ccm-long source meg c hs hm =
 pub lengths : Lengths
 lengths = record { ccm = ccm-long }
 
--- our own address and the MEG ID among the names
-module _ (names : List ℕ) (whole : length names ≡ nameOctets) where
-  pub own-long : length (addressAt 0 names) ≡ 6
-  own-long = length-part 0 6 names (omega arith)
-
-  pub meg-long : length (megNamed names) ≡ 48
-  meg-long = length-part megFrom megOctets names (omega arith)
-
 -- ── piece by piece ──
 
 pub fixed-laid : (meg : List ℕ) (c : CcmValues) (mep : ℕ) (l : List ℕ) {x y z u v w r : List ℕ} → length meg ≡ 48 → 89 ≤ length l → mep ≡ mepId (c .mep)

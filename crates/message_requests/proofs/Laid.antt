@@ -6,13 +6,13 @@ use mathlib.Core.List.{List, _++_}
 use native.Mathlib.Omega.{arith}
 use lib.ListN.{length, replicate, length-append, length-replicate}
 use Rattle.base_laws.specs.Lists.{laid}
-use Rattle.base_laws.proofs.Lists.{length-part}
 use Rattle.base_laws.proofs.Pieces.{first, more}
 use Rattle.base_numbers.specs.Numbers.{inOctets, bigEndian}
 use Rattle.base_numbers.proofs.Laws.{length-octets}
 use Rattle.base_bits.specs.Fields.{firstOctet}
 use Rattle.base_stamp.specs.declared.Stamp.{Stamp}
 use Rattle.state_settings.specs.Settings.{addressAt, nameOctets}
+use Rattle.state_settings.proofs.Shape.{own-long, peer-long}
 use Rattle.message_parts.specs.Messages.{count, stampOctets, afterDestination}
 use Rattle.message_parts.specs.declared.parts.Written.{Written}
 use Rattle.message_parts.specs.declared.parts.Written.the-variants.{NoRoom, Octets}
@@ -20,14 +20,6 @@ use Rattle.message_parts.specs.Buffer.{writtenOf, bufferOf, told, numbersOf}
 use Rattle.message_parts.proofs.Laid.{count-long, stamp-long, after-long, zeros}
 use Rattle.message_parts.proofs.Numbers.{no-room, room}
 use Rattle.message_requests.specs.Requests.{lmmOctets, dmmOctets, Lengths}
-
--- both addresses among the names
-module _ (names : List ℕ) (whole : length names ≡ nameOctets) where
-  pub own-long : length (addressAt 0 names) ≡ 6
-  own-long = length-part 0 6 names (omega arith)
-
-  pub peer-long : length (addressAt 6 names) ≡ 6
-  peer-long = length-part 6 6 names (omega arith)
 
 -- ── any request: a destination, the head, n octets, k zeros ──
 

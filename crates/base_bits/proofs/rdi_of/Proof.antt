@@ -3,11 +3,6 @@ use borrow.Author.Needs.{needs}
 use Rattle.base_bits.proofs.rdi_of.Statement.{statement}
 use Rattle.base_bits.proofs.rdi_of.Tie as tie
 
-cast-result : tie.Need-cast-result
-cast-result c = search needs
-
-returns : tie.Need-returns
-returns c = search needs
-
 pub rdi-of-spec : {M : Type 1} → statement M
-rdi-of-spec = tie.close (tie.spec cast-result returns)
+rdi-of-spec = tie.close
+    (tie.spec (search needs) (search needs))

@@ -6,6 +6,7 @@ use denote.Ref.{now}
 use lib.Dec.{eqb}
 use lib.ListN.{length}
 use Rattle.base_laws.proofs.Loops.{PairsJoined, pairs-start, pairs-next, pairs-all, pair-lengths}
+use Rattle.base_laws.proofs.Places.{at}
 use borrow.Author.Needs.{needs}
 use Rattle.base_compare.proofs.same_octets.Statement.{statement}
 use Rattle.base_compare.proofs.same_octets.Tie as tie
@@ -22,20 +23,8 @@ returns c = sym (pair-lengths eqb (now (c .before .args .a)) (now (c .before .ar
 loop-holds : tie.Need-loop-holds Inv-loop μ-loop
 loop-holds c = pairs-start
 
-shared-slice-read-good : tie.Need-shared-slice-read-good Inv-loop μ-loop
-shared-slice-read-good c = search needs
-
-shared-slice-read-good-2 : tie.Need-shared-slice-read-good-2 Inv-loop μ-loop
-shared-slice-read-good-2 c = search needs
-
-add-i : tie.Need-add-i Inv-loop μ-loop
-add-i c = search needs
-
-loop-less : tie.Need-loop-less Inv-loop μ-loop
-loop-less c = search needs
-
 loop-again : tie.Need-loop-again Inv-loop μ-loop
-loop-again c = pairs-next (c .before .before .before .loop .inv) 0 0 (omega arith) (omega arith)
+loop-again c = pairs-next (at (tie.At-loop Inv-loop μ-loop) (search) .loop .inv) 0 0 (omega arith) (omega arith)
 
 returns-2 : tie.Need-returns-2 Inv-loop μ-loop
 returns-2 c = pairs-all (c .before .loop .inv) (omega arith) (omega arith)
@@ -43,14 +32,4 @@ returns-2 c = pairs-all (c .before .loop .inv) (omega arith) (omega arith)
 pub same-octets-spec : {M : Type 1} → statement M
 same-octets-spec =
     tie.close
-    (tie.spec
-    Inv-loop
-    μ-loop
-    returns
-    loop-holds
-    shared-slice-read-good
-    shared-slice-read-good-2
-    add-i
-    loop-less
-    loop-again
-    returns-2)
+    (tie.spec Inv-loop μ-loop returns loop-holds (search needs) (search needs) (search needs) (search needs) loop-again returns-2)

@@ -6,12 +6,6 @@ use borrow.Author.Needs.{needs}
 use Rattle.base_hex.proofs.hex_digit.Statement.{statement}
 use Rattle.base_hex.proofs.hex_digit.Tie as tie
 
-add-result : tie.Need-add-result
-add-result c = search needs
-
-add-result-2 : tie.Need-add-result-2
-add-result-2 c = search needs
-
 returns : tie.Need-returns
 returns c = sym (digit-below (c .before .args .value) (omega arith))
 
@@ -19,4 +13,5 @@ returns-2 : tie.Need-returns-2
 returns-2 c = sym (digit-above (c .before .args .value) (omega arith))
 
 pub hex-digit-spec : {M : Type 1} → statement M
-hex-digit-spec = tie.close (tie.spec add-result add-result-2 returns returns-2)
+hex-digit-spec = tie.close
+    (tie.spec (search needs) (search needs) returns returns-2)

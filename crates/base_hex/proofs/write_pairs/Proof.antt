@@ -6,6 +6,7 @@ use native.Mathlib.Omega.{arith}
 use denote.Ref.{now}
 use lib.ListN.{length, getD, take}
 use lib.Seq.{take-all}
+use Rattle.base_laws.proofs.Places.{at}
 use borrow.Author.Needs.{needs}
 use Rattle.base_laws.specs.Lists.{laid}
 use Rattle.base_hex.specs.Hex.{hexPair, hexPairs}
@@ -20,36 +21,23 @@ abbrev μ-loop : tie.MeasureT-loop
 μ-loop into₀ at octets i₀ into i = length octets - i
 
 loop-holds : tie.Need-loop-holds Inv-loop μ-loop
-loop-holds c = (search needs, refl, pairs-start (c .before .before .args .at) (now (c .before .before .args .octets)) (now (c .before .before .args .into)))
-
-mul-write-pair : tie.Need-mul-write-pair Inv-loop μ-loop
-mul-write-pair c = search needs
-
-add-write-pair : tie.Need-add-write-pair Inv-loop μ-loop
-add-write-pair c = search needs
-
-shared-slice-read-write-pair : tie.Need-shared-slice-read-write-pair Inv-loop μ-loop
-shared-slice-read-write-pair c = search needs
-
-write-pair-requires : tie.Need-write-pair-requires Inv-loop μ-loop
-write-pair-requires c κs = search needs
-
-add-i : tie.Need-add-i Inv-loop μ-loop
-add-i c = search needs
-
-loop-less : tie.Need-loop-less Inv-loop μ-loop
-loop-less c = search needs
+loop-holds c = (
+  search needs,
+  refl,
+  pairs-start (at (tie.Start Inv-loop μ-loop) (search) .args .at)
+      (now (at (tie.Start Inv-loop μ-loop) (search) .args .octets)) (now (at (tie.Start Inv-loop μ-loop) (search) .args .into)),
+)
 
 loop-again : tie.Need-loop-again Inv-loop μ-loop
 loop-again c =
-    let l = c .before .before .before .before .before .before .loop in
-    let a = c .before .before .before .before .before .before .before .before .before .args in
+    let l = at (tie.At-loop Inv-loop μ-loop) (search) .loop in
+    let a = at (tie.Start Inv-loop μ-loop) (search) .args in
     let x = getD (now (a .octets)) (l .i) 0 in (
       omega arith,
       search needs,
-      c .before .before .write-pair .ensures
+      at (tie.After-write-pair Inv-loop μ-loop) (search) .write-pair .ensures
           ∙ ap (laid (a .at + 2 * l .i) (hexPair x)) (l .inv .2)
-          ∙ pairs-turn (a .at) (l .i) (now (a .octets)) (now (a .into)) (omega arith) (c .before .before .before .before .before .before .before .before .before .pre),
+          ∙ pairs-turn (a .at) (l .i) (now (a .octets)) (now (a .into)) (omega arith) (at (tie.Start Inv-loop μ-loop) (search) .pre),
     )
 
 same-length : tie.Need-same-length Inv-loop μ-loop
@@ -58,22 +46,11 @@ same-length c = c .before .loop .inv .1
 returns : tie.Need-returns Inv-loop μ-loop
 returns c =
     let l = c .before .loop in
-    let a = c .before .before .before .before .args in
+    let a = at (tie.Start Inv-loop μ-loop) (search) .args in
     l .inv .2 ∙ ap (λ (m : List ℕ). laid (a .at) (hexPairs m) (now (a .into))) (take-all (l .i) (now (a .octets)) (omega arith))
 
 pub write-pairs-spec : {M : Type 1} → statement M
 write-pairs-spec =
     tie.close
-    (tie.spec
-    Inv-loop
-    μ-loop
-    loop-holds
-    mul-write-pair
-    add-write-pair
-    shared-slice-read-write-pair
-    write-pair-requires
-    add-i
-    loop-less
-    loop-again
-    same-length
-    returns)
+    (tie.spec Inv-loop μ-loop loop-holds (search needs) (search needs) (search needs) (search needs) (search needs) (search needs)
+    loop-again same-length returns)

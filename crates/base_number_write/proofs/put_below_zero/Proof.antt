@@ -2,6 +2,7 @@
 use native.Mathlib.Omega.{arith}
 use mathlib.Core.Path.{sym, ap, _∙_}
 use mathlib.Core.List.{List, _∷_}
+use Rattle.base_laws.proofs.Places.{at}
 use borrow.Author.Needs.{needs}
 use denote.Ref.{now}
 use lib.ListN.{set}
@@ -12,49 +13,23 @@ use Rattle.base_number_write.proofs.put_below_zero.Statement.{statement
 use Rattle.base_number_write.proofs.put_below_zero.Tie as tie
 
 returns : tie.Need-returns
-returns c = let a = c .before .before .args in
+returns c = let a = at tie.Start (search) .args in
     put-nothing (a .at) (45 ∷ digitsOf (a .size)) (now (a .into)) (omega (arith))
 
-add-put-size : tie.Need-add-put-size
-add-put-size c = search needs
-
-put-size-requires : tie.Need-put-size-requires
-put-size-requires c κs = search needs
-
-add-if2 : tie.Need-add-if2
-add-if2 c = search needs
-
-same-length : tie.Need-same-length
-same-length c = search needs
-
 returns-2 : tie.Need-returns-2
-returns-2 c = let p = c .before .before .before .put-size .ensures in
-    let a = c .before .before .before .before .before .before .before .args in
+returns-2 c = let p = at tie.After-put-size (search) .put-size .ensures in
+    let a = at tie.Start (search) .args in
     let r = put-not-before (a .at) 45 (digitsOf (a .size)) (now (a .into)) (is (a .size) .some) (sym (p .1) ∙ c .if2 .taken) in
     (p .0 ∙ r .0, r .1)
 
-slice-write-into : tie.Need-slice-write-into
-slice-write-into c = search needs
-
-same-length-2 : tie.Need-same-length-2
-same-length-2 c = search needs
-
 returns-3 : tie.Need-returns-3
-returns-3 c = let p = c .before .before .before .put-size .ensures in
-    let a = c .before .before .before .before .before .before .before .args in
+returns-3 c = let p = at tie.After-put-size (search) .put-size .ensures in
+    let a = at tie.Start (search) .args in
     let r = put-before (a .at) 45 (digitsOf (a .size)) (now (a .into)) (is (a .size) .some) (λ e. c .if2 .left (p .1 ∙ e)) in
     (ap (λ (l : List _). set l (a .at) 45) (p .0) ∙ r .0, p .1 ∙ r .1)
 
 pub put-below-zero-spec : {M : Type 1} → statement M
 put-below-zero-spec =
     tie.close
-    (tie.spec
-    returns
-    add-put-size
-    put-size-requires
-    add-if2
-    same-length
-    returns-2
-    slice-write-into
-    same-length-2
-    returns-3)
+    (tie.spec returns (λ c. search needs) (λ c κs. search needs) (λ c. search needs) (λ c. search needs) returns-2 (λ c. search needs)
+    (λ c. search needs) returns-3)

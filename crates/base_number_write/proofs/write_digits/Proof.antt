@@ -2,6 +2,7 @@
 -- The measure is `left`.
 use native.Mathlib.Omega.{arith}
 use denote.Ref.{now}
+use Rattle.base_laws.proofs.Places.{at}
 use Rattle.base_number_write.proofs.Turns.{Writing, writing-start, writing-next, writing-done}
 use Rattle.base_number_write.proofs.write_digits.Statement.{statement}
 use Rattle.base_number_write.proofs.write_digits.Tie as tie
@@ -40,21 +41,9 @@ same-length : tie.Need-same-length Inv-loop μ-loop
 same-length c = c .before .loop .inv .long
 
 returns : tie.Need-returns Inv-loop μ-loop
-returns c = writing-done (c .before .loop .inv) (omega arith) (c .before .before .pre .0)
+returns c = writing-done (c .before .loop .inv) (omega arith) (at (tie.Start Inv-loop μ-loop) (search) .pre .0)
 
 pub write-digits-spec : {M : Type 1} → statement M
 write-digits-spec =
     tie.close
-    (tie.spec
-    Inv-loop
-    μ-loop
-    loop-holds
-    sub-left
-    cast-into
-    add-into
-    add-into-2
-    slice-write-into
-    loop-less
-    loop-again
-    same-length
-    returns)
+    (tie.spec Inv-loop μ-loop loop-holds sub-left cast-into add-into add-into-2 slice-write-into loop-less loop-again same-length returns)

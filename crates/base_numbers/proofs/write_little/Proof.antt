@@ -8,6 +8,7 @@ use Prim.Native.Nat.{ℕ, _+_, _/_, _%_, _^_, _-_, _≤_}
 use denote.Ref.{now}
 use lib.Bits.{bitAnd, and-mask}
 use lib.ListN.{length, set, length-set}
+use Rattle.base_laws.proofs.Places.{at}
 use Rattle.base_laws.specs.Lists.{laid}
 use Rattle.base_numbers.specs.Numbers.{inOctets, littleEndian}
 use Rattle.base_numbers.proofs.Laws.{divided}
@@ -16,13 +17,20 @@ use Rattle.base_numbers.proofs.write_little.Statement.{statement}
 use Rattle.base_numbers.proofs.write_little.Tie as tie
 
 abbrev Inv-loop : tie.InvT-loop
-Inv-loop into₀ at n value rest₀ i₀ into rest i = (i ≤ n) × (length into ≡ length into₀) × (into ≡ laid at (inOctets littleEndian i value) into₀) × (rest ≡ value / 256 ^ i)
+Inv-loop into₀ at n value rest₀ i₀ into rest i = (i ≤ n) × (length into ≡ length into₀)
+    × (into ≡ laid at (inOctets littleEndian i value) into₀) × (rest ≡ value / 256 ^ i)
 
 abbrev μ-loop : tie.MeasureT-loop
 μ-loop into₀ at n value rest₀ i₀ into rest i = n - i
 
 loop-holds : tie.Need-loop-holds Inv-loop μ-loop
-loop-holds c = (omega arith, refl, laid-nothing littleEndian (c .args .at) (c .args .value) (now (c .args .into)), sym (div-one (c .args .value)))
+loop-holds c = (
+  omega arith,
+  refl,
+  laid-nothing littleEndian (c .args .at) (c .args .value) (now (c .args .into)),
+  sym
+      (div-one (c .args .value)),
+)
 
 cast-into : tie.Need-cast-into Inv-loop μ-loop
 cast-into c = masked-fits (c .before .loop .rest) _ tt
@@ -41,7 +49,7 @@ loop-less c = omega arith
 
 loop-again : tie.Need-loop-again Inv-loop μ-loop
 loop-again c = let l = c .before .loop in
-    let a = c .before .before .args in
+    let a = at (tie.Start Inv-loop μ-loop) (search) .args in
     let x : bitAnd (l .rest) 255 ≡ a .value / 256 ^ l .i % 256 = and-mask (l .rest) 8 ∙ ap (λ (k : ℕ). k % 256) (l .inv .3) in (
       omega arith,
       length-set (l .into) (a .at + l .i) _ ∙ l .inv .1,
@@ -56,22 +64,11 @@ same-length c = c .before .loop .inv .1
 
 returns : tie.Need-returns Inv-loop μ-loop
 returns c = let l = c .before .loop in
-    let a = c .before .before .args in
+    let a = at (tie.Start Inv-loop μ-loop) (search) .args in
     let e : l .i ≡ a .n = omega arith in
     l .inv .2 ∙ ap (λ (k : ℕ). laid (a .at) (inOctets littleEndian k (a .value)) (now (a .into))) e
 
 pub write-little-spec : {M : Type 1} → statement M
 write-little-spec =
     tie.close
-    (tie.spec
-    Inv-loop
-    μ-loop
-    loop-holds
-    cast-into
-    add-into
-    slice-write-into
-    add-i
-    loop-less
-    loop-again
-    same-length
-    returns)
+    (tie.spec Inv-loop μ-loop loop-holds cast-into add-into slice-write-into add-i loop-less loop-again same-length returns)

@@ -6,6 +6,7 @@ use Prim.Native.Nat.{ℕ, _+_, _-_, _≤_}
 use denote.Ref.{now}
 use lib.ListN.{length, getD, set, take, length-set}
 use lib.Seq.{take-all}
+use Rattle.base_laws.proofs.Places.{at}
 use Rattle.base_laws.specs.Lists.{laid}
 use Rattle.base_laws.proofs.Lists.{laid-none}
 use Rattle.base_octets.proofs.Turns.{copy-turn}
@@ -37,12 +38,13 @@ loop-less : tie.Need-loop-less Inv-loop μ-loop
 loop-less c = omega arith
 
 loop-again : tie.Need-loop-again Inv-loop μ-loop
-loop-again c = let l = c .before .before .loop in
-    let a = c .before .before .before .args in
+loop-again c = let l = at (tie.At-loop Inv-loop μ-loop) (search) .loop in
+    let a = at (tie.Start Inv-loop μ-loop) (search) .args in
     let x = getD (now (a .from)) (l .i) 0 in (
       omega arith,
       length-set (l .into) (a .at + l .i) x ∙ l .inv .1,
-      ap (λ (s : List ℕ). set s (a .at + l .i) x) (l .inv .2) ∙ copy-turn (a .at) (l .i) (now (a .from)) (now (a .into)) (omega arith) (omega arith),
+      ap (λ (s : List ℕ). set s (a .at + l .i) x) (l .inv .2)
+          ∙ copy-turn (a .at) (l .i) (now (a .from)) (now (a .into)) (omega arith) (omega arith),
     )
 
 same-length : tie.Need-same-length Inv-loop μ-loop
@@ -50,21 +52,10 @@ same-length c = c .before .loop .inv .1
 
 returns : tie.Need-returns Inv-loop μ-loop
 returns c = let l = c .before .loop in
-    let a = c .before .before .args in
+    let a = at (tie.Start Inv-loop μ-loop) (search) .args in
     l .inv .2 ∙ ap (λ (s : List ℕ). laid (a .at) s (now (a .into))) (take-all (l .i) (now (a .from)) (omega arith))
 
 pub copy-octets-spec : {M : Type 1} → statement M
 copy-octets-spec =
     tie.close
-    (tie.spec
-    Inv-loop
-    μ-loop
-    loop-holds
-    shared-slice-read-into
-    add-into
-    slice-write-into
-    add-i
-    loop-less
-    loop-again
-    same-length
-    returns)
+    (tie.spec Inv-loop μ-loop loop-holds shared-slice-read-into add-into slice-write-into add-i loop-less loop-again same-length returns)

@@ -5,11 +5,9 @@ use Rattle.base_period.specs.declared.Period.{Period}
 use Rattle.base_period.proofs.ticks_of.Statement.{statement}
 use Rattle.base_period.proofs.ticks_of.Tie as tie
 
-from-code-requires : tie.Need-from-code-requires
-from-code-requires c κs = search needs
-
 returns : tie.Need-returns
 returns c = ap (λ (p : Period). p .ticks) (c .from-code .ensures)
 
 pub ticks-of-spec : {M : Type 1} → statement M
-ticks-of-spec = tie.close (tie.spec from-code-requires returns)
+ticks-of-spec = tie.close
+    (tie.spec (search needs) returns)

@@ -4,6 +4,7 @@ use mir.Syntax.{w64}
 use mir.Val.{ofZ}
 use mir.Facts.{fits-natAbs}
 use mathlib.Core.Logic.{⊎-elim}
+use Rattle.base_laws.proofs.Places.{at}
 use Rattle.base_laws.proofs.Stored.{back, flip-fits, flipped, read-above, bits-below, bits-above}
 use native.Mathlib.Omega.{arith}
 use native.Mathlib.Nat.{div-one}
@@ -21,7 +22,8 @@ use Rattle.base_signed.proofs.write_little_signed.Statement.{statement}
 use Rattle.base_signed.proofs.write_little_signed.Tie as tie
 
 abbrev Inv-loop : tie.InvT-loop
-Inv-loop into₀ at value bits₀ i₀ into bits i = (i ≤ 8) × (length into ≡ length into₀) × (into ≡ laid at (inOctets littleEndian i bits₀) into₀) × (bits ≡ bits₀ / 256 ^ i)
+Inv-loop into₀ at value bits₀ i₀ into bits i = (i ≤ 8) × (length into ≡ length into₀)
+    × (into ≡ laid at (inOctets littleEndian i bits₀) into₀) × (bits ≡ bits₀ / 256 ^ i)
 
 abbrev μ-loop : tie.MeasureT-loop
 μ-loop into₀ at value bits₀ i₀ into bits i = 8 - i
@@ -45,14 +47,18 @@ sub-bits-2 : tie.Need-sub-bits-2 Inv-loop μ-loop
 sub-bits-2 c = rw (flipped (c .before .args .value) (c .before .fits .value) (c .if1 .taken)) (omega arith)
 
 cast-bits-2 : tie.Need-cast-bits-2 Inv-loop μ-loop
-cast-bits-2 c = (read-above (c .before .args .value) (c .before .fits .value) (c .if1 .left), rw (back (c .before .args .value) (c .before .fits .value)) (fits-natAbs tt (c .before .fits .value)))
+cast-bits-2 c = (
+  read-above (c .before .args .value) (c .before .fits .value) (c .if1 .left),
+  rw
+      (back (c .before .args .value) (c .before .fits .value)) (fits-natAbs tt (c .before .fits .value)),
+)
 
 loop-holds : tie.Need-loop-holds Inv-loop μ-loop
 loop-holds c = let a = c .before .args in
     (omega arith, refl, laid-nothing littleEndian (a .at) (c .if1 .bits) (now (a .into)), sym (div-one (c .if1 .bits)))
 
 cast-into : tie.Need-cast-into Inv-loop μ-loop
-cast-into c = masked-fits (c .before .before .loop .bits) _ tt
+cast-into c = masked-fits (at (tie.At-loop Inv-loop μ-loop) (search) .loop .bits) _ tt
 
 add-into : tie.Need-add-into Inv-loop μ-loop
 add-into c = omega arith
@@ -67,9 +73,9 @@ loop-less : tie.Need-loop-less Inv-loop μ-loop
 loop-less c = omega arith
 
 loop-again : tie.Need-loop-again Inv-loop μ-loop
-loop-again c = let l = c .before .before .loop in
-    let b = c .before .before .before .if1 .bits in
-    let a = c .before .before .before .before .args in
+loop-again c = let l = at (tie.At-loop Inv-loop μ-loop) (search) .loop in
+    let b = at (tie.Joined1 Inv-loop μ-loop) (search) .if1 .bits in
+    let a = at (tie.Start Inv-loop μ-loop) (search) .args in
     let x : bitAnd (l .bits) 255 ≡ b / 256 ^ l .i % 256 = and-mask (l .bits) 8 ∙ ap (λ (k : ℕ). k % 256) (l .inv .3) in (
       omega arith,
       length-set (l .into) (a .at + l .i) _ ∙ l .inv .1,
@@ -84,26 +90,13 @@ same-length c = c .before .loop .inv .1
 
 returns : tie.Need-returns Inv-loop μ-loop
 returns c = let l = c .before .loop in
-    let a = c .before .before .before .args in
+    let a = at (tie.Start Inv-loop μ-loop) (search) .args in
     let all : l .i ≡ 8 = omega arith in
-    l .inv .2 ∙ ap₂ (λ (k v : ℕ). laid (a .at) (inOctets littleEndian k v) (now (a .into))) all (complement (c .before .before))
+    l .inv .2 ∙ ap₂ (λ (k v : ℕ). laid (a .at) (inOctets littleEndian k v) (now (a .into))) all
+    (complement (at (tie.Joined1 Inv-loop μ-loop) (search)))
 
 pub write-little-signed-spec : {M : Type 1} → statement M
 write-little-signed-spec =
     tie.close
-    (tie.spec
-    Inv-loop
-    μ-loop
-    sub-bits
-    cast-bits
-    sub-bits-2
-    cast-bits-2
-    loop-holds
-    cast-into
-    add-into
-    slice-write-into
-    add-i
-    loop-less
-    loop-again
-    same-length
-    returns)
+    (tie.spec Inv-loop μ-loop sub-bits cast-bits sub-bits-2 cast-bits-2 loop-holds cast-into add-into slice-write-into add-i loop-less
+    loop-again same-length returns)

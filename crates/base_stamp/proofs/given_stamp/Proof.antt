@@ -3,8 +3,6 @@ use borrow.Author.Needs.{needs}
 use Rattle.base_stamp.proofs.given_stamp.Statement.{statement}
 use Rattle.base_stamp.proofs.given_stamp.Tie as tie
 
-returns : tie.Need-returns
-returns c = search needs
-
 pub given-stamp-spec : {M : Type 1} → statement M
-given-stamp-spec = tie.close (tie.spec returns)
+given-stamp-spec = tie.close
+    (tie.spec (search needs))

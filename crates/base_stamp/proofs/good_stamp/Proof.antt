@@ -3,8 +3,6 @@ use borrow.Author.Needs.{needs}
 use Rattle.base_stamp.proofs.good_stamp.Statement.{statement}
 use Rattle.base_stamp.proofs.good_stamp.Tie as tie
 
-returns : tie.Need-returns
-returns c = search needs
-
 pub good-stamp-spec : {M : Type 1} → statement M
-good-stamp-spec = tie.close (tie.spec returns)
+good-stamp-spec = tie.close
+    (tie.spec (search needs))

@@ -7,6 +7,7 @@ use lib.ListN.{length, getD, drop}
 use native.Mathlib.Nat.{add-zero, add-assoc}
 use Rattle.base_laws.specs.Lists.{placeOf}
 use Rattle.base_laws.proofs.Loops.{place-found, place-next, place-end}
+use Rattle.base_laws.proofs.Places.{at}
 use borrow.Author.Needs.{needs}
 use Rattle.base_words.proofs.place_of.Statement.{statement}
 use Rattle.base_words.proofs.place_of.Tie as tie
@@ -20,44 +21,25 @@ abbrev μ-loop : tie.MeasureT-loop
 loop-holds : tie.Need-loop-holds Inv-loop μ-loop
 loop-holds c = (omega arith, omega arith)
 
-mul-if1 : tie.Need-mul-if1 Inv-loop μ-loop
-mul-if1 c = search needs
-
-shared-slice-read-if1 : tie.Need-shared-slice-read-if1 Inv-loop μ-loop
-shared-slice-read-if1 c = search needs
-
 returns : tie.Need-returns Inv-loop μ-loop
-returns c = let l = c .before .before .before .loop in
-    let a = c .before .before .before .before .args in
+returns c = let l = at (tie.At-loop Inv-loop μ-loop) (search) .loop in
+    let a = at (tie.Start Inv-loop μ-loop) (search) .args in
     sym (l .inv .1 ∙ ap (λ (n : ℕ). l .i + n) (place-found (a .x) (now (a .words)) (l .i) (omega arith) (c .if1 .taken)) ∙ add-zero (l .i))
 
-add-i : tie.Need-add-i Inv-loop μ-loop
-add-i c = search needs
-
-loop-less : tie.Need-loop-less Inv-loop μ-loop
-loop-less c = search needs
-
 loop-again : tie.Need-loop-again Inv-loop μ-loop
-loop-again c = let l = c .before .before .before .loop in
-    let a = c .before .before .before .before .args in
-    (omega arith, l .inv .1 ∙ ap (λ (n : ℕ). l .i + n) (place-next (a .x) (now (a .words)) (l .i) (omega arith) (c .if1 .left)) ∙ sym (add-assoc (l .i) 1 (placeOf (a .x) (drop (l .i + 1) (now (a .words))))))
+loop-again c = let l = at (tie.At-loop Inv-loop μ-loop) (search) .loop in
+    let a = at (tie.Start Inv-loop μ-loop) (search) .args in (
+      omega arith,
+      l .inv .1 ∙ ap (λ (n : ℕ). l .i + n) (place-next (a .x) (now (a .words)) (l .i) (omega arith) (c .if1 .left))
+          ∙ sym (add-assoc (l .i) 1 (placeOf (a .x) (drop (l .i + 1) (now (a .words))))),
+    )
 
 returns-2 : tie.Need-returns-2 Inv-loop μ-loop
 returns-2 c = let l = c .before .loop in
-    let a = c .before .before .args in
+    let a = at (tie.Start Inv-loop μ-loop) (search) .args in
     sym (l .inv .1 ∙ ap (λ (n : ℕ). l .i + n) (place-end (a .x) (now (a .words)) (l .i) (omega arith)) ∙ add-zero (l .i))
 
 pub place-of-spec : {M : Type 1} → statement M
 place-of-spec =
     tie.close
-    (tie.spec
-    Inv-loop
-    μ-loop
-    loop-holds
-    mul-if1
-    shared-slice-read-if1
-    returns
-    add-i
-    loop-less
-    loop-again
-    returns-2)
+    (tie.spec Inv-loop μ-loop loop-holds (search needs) (search needs) returns (search needs) (search needs) loop-again returns-2)

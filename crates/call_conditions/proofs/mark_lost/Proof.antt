@@ -8,12 +8,14 @@ use lib.ListN.{length, set}
 use Rattle.base_laws.specs.Lists.{laid}
 use Rattle.call_conditions.specs.Conditions.{table, lostAt}
 use Rattle.call_conditions.proofs.Table.{table-start, table-next, table-whole}
+use Rattle.base_laws.proofs.Places.{at}
 use borrow.Author.Needs.{needs}
 use Rattle.call_conditions.proofs.mark_lost.Statement.{statement}
 use Rattle.call_conditions.proofs.mark_lost.Tie as tie
 
 abbrev Inv-loop : tie.InvT-loop
-Inv-loop lost₀ timers count used i₀ lost i = (used ≡ count) × (i ≤ 8) × (length lost₀ ≡ 8) × (lost ≡ laid 0 (table (lostAt count timers) i) lost₀)
+Inv-loop lost₀ timers count used i₀ lost i = (used ≡ count) × (i ≤ 8) × (length lost₀ ≡ 8)
+    × (lost ≡ laid 0 (table (lostAt count timers) i) lost₀)
 
 abbrev μ-loop : tie.MeasureT-loop
 μ-loop lost₀ timers count used i₀ lost i = 8 - i
@@ -21,42 +23,22 @@ abbrev μ-loop : tie.MeasureT-loop
 loop-holds : tie.Need-loop-holds Inv-loop μ-loop
 loop-holds c = (search needs, search needs, search needs, table-start _ _)
 
-mul-flag-of : tie.Need-mul-flag-of Inv-loop μ-loop
-mul-flag-of c = search needs
-
-element-copy-out-flag-of : tie.Need-element-copy-out-flag-of Inv-loop μ-loop
-element-copy-out-flag-of c = search needs
-
-flag-of-requires : tie.Need-flag-of-requires Inv-loop μ-loop
-flag-of-requires c κs = search needs
-
-mul-lost : tie.Need-mul-lost Inv-loop μ-loop
-mul-lost c = search needs
-
-element-write-lost : tie.Need-element-write-lost Inv-loop μ-loop
-element-write-lost c = search needs
-
-add-i : tie.Need-add-i Inv-loop μ-loop
-add-i c = search needs
-
-loop-less : tie.Need-loop-less Inv-loop μ-loop
-loop-less c = search needs
-
 loop-again : tie.Need-loop-again Inv-loop μ-loop
 loop-again c =
-    let l = c .before .before .before .loop in
-    let a = c .before .before .before .before .before .before .args in
+    let l = at (tie.At-loop Inv-loop μ-loop) (search) .loop in
+    let a = at (tie.Start Inv-loop μ-loop) (search) .args in
     let f = lostAt (a .count) (now (a .timers)) in (
       refl,
       omega arith,
       l .inv .2,
-      ap (λ (m : List ℕ). set m (l .i) (c .flag-of .result)) (l .inv .3) ∙ table-next f (now (a .lost)) (l .i) (c .flag-of .result) (omega (arith, l .inv .2)) (c .flag-of .ensures),
+      ap (λ (m : List ℕ). set m (l .i) (c .flag-of .result)) (l .inv .3)
+          ∙ table-next f (now (a .lost)) (l .i) (c .flag-of .result) (omega (arith, l .inv .2)) (c .flag-of .ensures),
     )
 
 returns : tie.Need-returns Inv-loop μ-loop
 returns c =
     let l = c .before .loop in
-    let a = c .before .before .before .before .args in
+    let a = at (tie.Start Inv-loop μ-loop) (search) .args in
     let f = lostAt (a .count) (now (a .timers)) in
     let e : l .i ≡ 8 = omega arith in
     l .inv .3 ∙ ap (λ (k : ℕ). laid 0 (table f k) (now (a .lost))) e ∙ table-whole f (now (a .lost)) 8 (l .inv .2)
@@ -64,16 +46,5 @@ returns c =
 pub mark-lost-spec : {M : Type 1} → statement M
 mark-lost-spec =
     tie.close
-    (tie.spec
-    Inv-loop
-    μ-loop
-    loop-holds
-    mul-flag-of
-    element-copy-out-flag-of
-    flag-of-requires
-    mul-lost
-    element-write-lost
-    add-i
-    loop-less
-    loop-again
-    returns)
+    (tie.spec Inv-loop μ-loop loop-holds (search needs) (search needs) (search needs) (search needs) (search needs) (search needs)
+    (search needs) loop-again returns)

@@ -9,59 +9,36 @@ use Rattle.call_send_answer.proofs.Sender.{taken, left, short, sent}
 use Rattle.call_send_answer.proofs.Said.{outcome}
 use Rattle.call_send_lmm.specs.Lmm.{lmmOf, sendLmm}
 use Rattle.call_send_lmm.proofs.Lmm.{agree}
+use Rattle.base_laws.proofs.Places.{at}
 use borrow.Author.Needs.{needs}
 use Rattle.call_send_lmm.proofs.send_lmm.Statement.{statement}
 use Rattle.call_send_lmm.proofs.send_lmm.Tie as tie
 
-is-well-formed-requires : tie.Need-is-well-formed-requires
-is-well-formed-requires c κs = search needs
-
 returns : tie.Need-returns
 unfolding sendLmm
 returns c =
-    let a = c .before .before .before .args in
+    let a = at tie.Start (search) .args in
     let s = lying (a .set) (a .names) (a .ids) (a .timers) (a .rdi) (a .run) (a .totals) in
     outcome lmmTold (agree s (now (a .out))) (taken {t = wellFormed s} (c .before .is-well-formed .ensures) (c .if1 .taken) .is)
-
-element-copy-out-write-lmm : tie.Need-element-copy-out-write-lmm
-element-copy-out-write-lmm c = search needs
-
-element-copy-out-write-lmm-2 : tie.Need-element-copy-out-write-lmm-2
-element-copy-out-write-lmm-2 c = search needs
-
-write-lmm-requires : tie.Need-write-lmm-requires
-write-lmm-requires c κs = search needs
-
-enum-told : tie.Need-enum-told
-enum-told c = search needs
-
-enum-known-written : tie.Need-enum-known-written
-enum-known-written c = search needs
-
-same-length : tie.Need-same-length
-same-length c = search needs
 
 returns-2 : tie.Need-returns-2
 unfolding lmmOf sendLmm
 returns-2 c =
-    let test = c .before .before .before .before .before .before .before .before in
-    let a = test .before .before .before .args in
+    let test = at tie.Else1 (search) in
+    let a = at tie.Start (search) .args in
     let s = lying (a .set) (a .names) (a .ids) (a .timers) (a .rdi) (a .run) (a .totals) in
-    let w = c .before .before .before .before .write-lmm .ensures in
+    let w = at tie.After-write-lmm (search) .write-lmm .ensures in
     outcome lmmTold (agree s (now (a .out)))
     (left {t = wellFormed s} (test .before .is-well-formed .ensures) (test .if1 .left)
     (short (lmmOf s) (now (a .out)) lmmLength (w .1 .1) (w .0 .0) (w .1 .0) (c .enum-told .given .1)) .is)
 
-same-length-2 : tie.Need-same-length-2
-same-length-2 c = search needs
-
 returns-3 : tie.Need-returns-3
 unfolding lmmOf sendLmm
 returns-3 c =
-    let test = c .before .before .before .before .before .before .before .before .before in
-    let a = test .before .before .before .args in
+    let test = at tie.Else1 (search) in
+    let a = at tie.Start (search) .args in
     let s = lying (a .set) (a .names) (a .ids) (a .timers) (a .rdi) (a .run) (a .totals) in
-    let w = c .before .before .before .before .before .write-lmm .ensures in
+    let w = at tie.After-write-lmm (search) .write-lmm .ensures in
     outcome lmmTold (agree s (now (a .out)))
     (left {t = wellFormed s} (test .before .is-well-formed .ensures) (test .if1 .left)
     (sent (lmmOf s) (now (a .out)) lmmLength (w .1 .1) (w .0 .0) (w .1 .0) Sent (c .before .written .given .1)) .is)
@@ -69,15 +46,5 @@ returns-3 c =
 pub send-lmm-spec : {M : Type 1} → statement M
 send-lmm-spec =
     tie.close
-    (tie.spec
-    is-well-formed-requires
-    returns
-    element-copy-out-write-lmm
-    element-copy-out-write-lmm-2
-    write-lmm-requires
-    enum-told
-    enum-known-written
-    same-length
-    returns-2
-    same-length-2
-    returns-3)
+    (tie.spec (search needs) returns (search needs) (search needs) (search needs) (search needs) (search needs) (search needs) returns-2
+    (search needs) returns-3)

@@ -13,6 +13,7 @@ use Rattle.call_setting.specs.Told.{told}
 use Rattle.call_setting.specs.declared.Started.{Started}
 use Rattle.call_setting.specs.Start.{startedWith, noState, settingOf, numbersOf}
 use Rattle.call_setting.proofs.Starts.{agree, answers}
+use Rattle.base_laws.proofs.Places.{at}
 use borrow.Author.Needs.{needs}
 use Rattle.call_setting.proofs.new_setting.Statement.{statement}
 use Rattle.call_setting.proofs.new_setting.Tie as tie
@@ -20,36 +21,34 @@ use Rattle.call_setting.proofs.new_setting.Tie as tie
 -- the definition's answer, and its number
 module _ (words names ids : List ℕ) (r : Started) where
   told-of : length names ≡ nameOctets → length ids ≡ slots → r ≡ settingOf words names ids
-      → (r ≡ settingOf words names ids) × ((told (r .answer) ≡ numbersOf (settingsOf words names ids)) × Shaped slots (settingsOf words names ids))
+      → (r ≡ settingOf words names ids)
+      × ((told (r .answer) ≡ numbersOf (settingsOf words names ids)) × Shaped slots (settingsOf words names ids))
   told-of h k e = (
     e,
-    (ap (λ (x : Started). told (x .answer)) e ∙ ap told (answers words names ids) ∙ agree (settingsOf words names ids), handed-shaped words names ids h k),
+    (
+      ap (λ (x : Started). told (x .answer)) e ∙ ap told (answers words names ids)
+          ∙ agree (settingsOf words names ids),
+      handed-shaped words names ids h k,
+    ),
   )
 
-  chosen : (b : Bool) → valid (settingsOf words names ids) ≡ b → r ≡ cond b (startedWith words names ids) noState → r ≡ settingOf words names ids
+  chosen : (b : Bool) → valid (settingsOf words names ids) ≡ b → r ≡ cond b (startedWith words names ids) noState
+      → r ≡ settingOf words names ids
   unfolding settingOf
   chosen b v e = e ∙ sym (ap (λ (x : Bool). cond x (startedWith words names ids) noState) v)
 
-is-valid-requires : tie.Need-is-valid-requires
-is-valid-requires c κs = search needs
-
-none-requires : tie.Need-none-requires
-none-requires c κs = search needs
-
 returns : tie.Need-returns
-returns c = let a = c .before .before .before .before .before .args in
-    let v = sym (c .before .before .is-valid .ensures) ∙ not-true _ (c .before .if1 .taken) in
+returns c = let a = at tie.Start (search) .args in
+    let v = sym (at tie.After-is-valid (search) .is-valid .ensures) ∙ not-true _ (c .before .if1 .taken) in
     told-of (now (a .set)) (now (a .names)) (now (a .ids)) _ (search needs) (search needs)
     (chosen (now (a .set)) (now (a .names)) (now (a .ids)) _ false v (c .none .ensures))
 
-begin-requires : tie.Need-begin-requires
-begin-requires c κs = search needs
-
 returns-2 : tie.Need-returns-2
-returns-2 c = let a = c .before .before .before .before .before .args in
-    let v = sym (c .before .before .is-valid .ensures) ∙ not-false _ (c .before .if1 .left) in
+returns-2 c = let a = at tie.Start (search) .args in
+    let v = sym (at tie.After-is-valid (search) .is-valid .ensures) ∙ not-false _ (c .before .if1 .left) in
     told-of (now (a .set)) (now (a .names)) (now (a .ids)) _ (search needs) (search needs)
     (chosen (now (a .set)) (now (a .names)) (now (a .ids)) _ true v (c .begin .ensures))
 
 pub new-setting-spec : {M : Type 1} → statement M
-new-setting-spec = tie.close (tie.spec is-valid-requires none-requires returns begin-requires returns-2)
+new-setting-spec = tie.close
+    (tie.spec (search needs) (search needs) returns (search needs) returns-2)

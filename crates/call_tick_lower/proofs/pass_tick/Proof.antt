@@ -3,27 +3,21 @@ use mathlib.Core.Path.{_≡_}
 use lib.ListN.{length}
 use Rattle.state_view.specs.State.{runWords, lossTotals}
 use Rattle.call_tick_lower.proofs.Lower.{passed}
+use Rattle.base_laws.proofs.Places.{at}
 use borrow.Author.Needs.{needs}
 use Rattle.call_tick_lower.proofs.pass_tick.Statement.{statement}
 use Rattle.call_tick_lower.proofs.pass_tick.Tie as tie
 
-lower-peers-requires : tie.Need-lower-peers-requires
-lower-peers-requires c κs = search needs
-
-lower-running-requires : tie.Need-lower-running-requires
-lower-running-requires c κs = search needs
-
-element-write-run : tie.Need-element-write-run
-element-write-run c = search needs
-
 returns : tie.Need-returns
 returns c =
-    let a = c .before .before .before .before .before .before .before .args in
+    let a = at tie.Start (search) .args in
     let w : length (a .run .now) ≡ runWords = search needs in
     let z : length (a .totals .now) ≡ lossTotals = search needs in
-    let view = passed (a .set .now) (a .names .now) (a .ids .now) (a .timers .now) (a .rdi .now) (a .run .now) (a .totals .now) (a .left) w (c .before .before .lower-peers .ensures) (c .lower-running .ensures) in
+    let view = passed (a .set .now) (a .names .now) (a .ids .now) (a .timers .now) (a .rdi .now) (a .run .now) (a .totals .now) (a .left) w
+    (at tie.After-lower-peers (search) .lower-peers .ensures) (c .lower-running .ensures) in
     (view .0, record { words = view .1; both = z })
 
 pub pass-tick-spec : {M : Type 1} → statement M
 pass-tick-spec =
-    tie.close (tie.spec lower-peers-requires lower-running-requires element-write-run returns)
+    tie.close
+    (tie.spec (search needs) (search needs) (search needs) returns)

@@ -15,87 +15,71 @@ use Rattle.frame_message.specs.Message.{periodCode}
 use Rattle.frame_ccm.specs.declared.CcmFields.{CcmFields}
 use Rattle.frame_ccm.specs.Ccm.{ccmIn, noCcm, ccmOf}
 use Rattle.frame_message.proofs.There.{one, is, is-not}
+use Rattle.base_laws.proofs.Places.{at}
 use borrow.Author.Needs.{needs}
 use Rattle.frame_ccm.proofs.ccm_fields.Statement.{statement}
 use Rattle.frame_ccm.proofs.ccm_fields.Tie as tie
 
 -- seven fields that were read are the definition's
-made : (p : List ℕ) (a b c d e g h : ℕ) → a ≡ word 4 p → b ≡ mepId (number bigEndian (part 8 2 p)) → c ≡ word 58 p → d ≡ word 62 p → e ≡ word 66 p
+made : (p : List ℕ) (a b c d e g h : ℕ) → a ≡ word 4 p → b ≡ mepId (number bigEndian (part 8 2 p)) → c ≡ word 58 p → d ≡ word 62 p
+    → e ≡ word 66 p
     → g ≡ periodCode (flagsOf p) → h ≡ flagsOf p / 128
     → record { sequence = a; mep = b; txfcf = c; rxfcb = d; txfcb = e; period = g; rdi = h } ≡ ccmIn p
 made p a b c d e g h i j k l m n o = cc
 
-good-opcode-requires : tie.Need-good-opcode-requires
-good-opcode-requires c κs = search needs
-
 returns : tie.Need-returns
 unfolding ccmOf
-returns c = let f = now (c .before .before .before .args .frame) in
+returns c = let f = now (at tie.Start (search) .args .frame) in
     sym (is-not f refl (c .before .good-opcode .ensures) (ccmIn (pduOf f)) noCcm 1 (c .if1 .taken))
-
-pdu-of-requires : tie.Need-pdu-of-requires
-pdu-of-requires c κs = search needs
 
 shared-slice-read-flags : tie.Need-shared-slice-read-flags
 unfolding ruleOf choose
-shared-slice-read-flags c = let long = one (now (c .before .before .before .before .before .args .frame)) (c .before .pdu-of .ensures .0) (c .before .before .before .good-opcode .ensures) 1 70 (c .before .before .if1 .left) (omega arith) refl in
+shared-slice-read-flags c = let long = one (now (at tie.Start (search) .args .frame)) (c .before .pdu-of .ensures .0)
+    (at tie.After-good-opcode (search) .good-opcode .ensures) 1 70 (at tie.Else1 (search) .if1 .left) (omega arith) refl in
     omega (arith, long)
 
 read-big-requires : tie.Need-read-big-requires
 unfolding ruleOf choose
-read-big-requires c κs = let long = one (now (c .before .before .before .before .before .args .frame)) (c .before .pdu-of .ensures .0) (c .before .before .before .good-opcode .ensures) 1 70 (c .before .before .if1 .left) (omega arith) refl in
+read-big-requires c κs = let long = one (now (at tie.Start (search) .args .frame)) (c .before .pdu-of .ensures .0)
+    (at tie.After-good-opcode (search) .good-opcode .ensures) 1 70 (at tie.Else1 (search) .if1 .left) (omega arith) refl in
     (omega arith, omega (arith, long))
 
 read-big-requires-2 : tie.Need-read-big-requires-2
 unfolding ruleOf choose
-read-big-requires-2 c κs = let long = one (now (c .before .before .before .before .before .before .args .frame)) (c .before .before .pdu-of .ensures .0) (c .before .before .before .before .good-opcode .ensures) 1 70 (c .before .before .before .if1 .left) (omega arith) refl in
+read-big-requires-2 c κs = let long = one (now (at tie.Start (search) .args .frame)) (at tie.After-pdu-of (search) .pdu-of .ensures .0)
+    (at tie.After-good-opcode (search) .good-opcode .ensures) 1 70 (at tie.Else1 (search) .if1 .left) (omega arith) refl in
     (omega arith, omega (arith, long))
-
-mep-id-of-requires : tie.Need-mep-id-of-requires
-mep-id-of-requires c κs = search needs
 
 read-big-requires-3 : tie.Need-read-big-requires-3
 unfolding ruleOf choose
-read-big-requires-3 c κs = let long = one (now (c .before .before .before .before .before .before .before .before .args .frame)) (c .before .before .before .before .pdu-of .ensures .0) (c .before .before .before .before .before .before .good-opcode .ensures) 1 70 (c .before .before .before .before .before .if1 .left) (omega arith) refl in
+read-big-requires-3 c κs = let long = one (now (at tie.Start (search) .args .frame)) (at tie.After-pdu-of (search) .pdu-of .ensures .0)
+    (at tie.After-good-opcode (search) .good-opcode .ensures) 1 70 (at tie.Else1 (search) .if1 .left) (omega arith) refl in
     (omega arith, omega (arith, long))
 
 read-big-requires-4 : tie.Need-read-big-requires-4
 unfolding ruleOf choose
-read-big-requires-4 c κs = let long = one (now (c .before .before .before .before .before .before .before .before .before .args .frame)) (c .before .before .before .before .before .pdu-of .ensures .0) (c .before .before .before .before .before .before .before .good-opcode .ensures) 1 70 (c .before .before .before .before .before .before .if1 .left) (omega arith) refl in
+read-big-requires-4 c κs = let long = one (now (at tie.Start (search) .args .frame)) (at tie.After-pdu-of (search) .pdu-of .ensures .0)
+    (at tie.After-good-opcode (search) .good-opcode .ensures) 1 70 (at tie.Else1 (search) .if1 .left) (omega arith) refl in
     (omega arith, omega (arith, long))
 
 read-big-requires-5 : tie.Need-read-big-requires-5
 unfolding ruleOf choose
-read-big-requires-5 c κs = let long = one (now (c .before .before .before .before .before .before .before .before .before .before .args .frame)) (c .before .before .before .before .before .before .pdu-of .ensures .0) (c .before .before .before .before .before .before .before .before .good-opcode .ensures) 1 70 (c .before .before .before .before .before .before .before .if1 .left) (omega arith) refl in
+read-big-requires-5 c κs = let long = one (now (at tie.Start (search) .args .frame)) (at tie.After-pdu-of (search) .pdu-of .ensures .0)
+    (at tie.After-good-opcode (search) .good-opcode .ensures) 1 70 (at tie.Else1 (search) .if1 .left) (omega arith) refl in
     (omega arith, omega (arith, long))
-
-period-code-of-requires : tie.Need-period-code-of-requires
-period-code-of-requires c κs = search needs
-
-rdi-of-requires : tie.Need-rdi-of-requires
-rdi-of-requires c κs = search needs
 
 returns-2 : tie.Need-returns-2
 unfolding ccmOf
-returns-2 c = let f = now (c .before .before .before .before .before .before .before .before .before .before .before .before .before .args .frame) in
-    made _ _ _ _ _ _ _ _ (c .before .before .before .before .before .before .before .read-big .ensures .is) (c .before .before .before .before .before .mep-id-of .ensures ∙ ap mepId (c .before .before .before .before .before .before .read-big2 .ensures .is)) (c .before .before .before .before .read-big3 .ensures .is) (c .before .before .before .read-big4 .ensures .is) (c .before .before .read-big5 .ensures .is) (c .before .period-code-of .ensures) (c .rdi-of .ensures .0)
-    ∙ ap ccmIn (c .before .before .before .before .before .before .before .before .before .pdu-of .ensures .0)
-    ∙ sym (is f refl (c .before .before .before .before .before .before .before .before .before .before .before .good-opcode .ensures) (ccmIn (pduOf f)) noCcm 1 (c .before .before .before .before .before .before .before .before .before .before .if1 .left))
+returns-2 c = let f = now (at tie.Start (search) .args .frame) in
+    made _ _ _ _ _ _ _ _ (at tie.After-read-big (search) .read-big .ensures .is) (at tie.After-mep-id-of (search) .mep-id-of .ensures
+    ∙ ap mepId (at tie.After-read-big2 (search) .read-big2 .ensures .is)) (at tie.After-read-big3 (search) .read-big3 .ensures .is)
+    (at tie.After-read-big4 (search) .read-big4 .ensures .is) (at tie.After-read-big5 (search) .read-big5 .ensures .is)
+    (c .before .period-code-of .ensures) (c .rdi-of .ensures .0)
+    ∙ ap ccmIn (at tie.After-pdu-of (search) .pdu-of .ensures .0)
+    ∙ sym (is f refl (at tie.After-good-opcode (search) .good-opcode .ensures) (ccmIn (pduOf f)) noCcm 1 (at tie.Else1 (search) .if1 .left))
 
 pub ccm-fields-spec : {M : Type 1} → statement M
 ccm-fields-spec =
     tie.close
-    (tie.spec
-    good-opcode-requires
-    returns
-    pdu-of-requires
-    shared-slice-read-flags
-    read-big-requires
-    read-big-requires-2
-    mep-id-of-requires
-    read-big-requires-3
-    read-big-requires-4
-    read-big-requires-5
-    period-code-of-requires
-    rdi-of-requires
-    returns-2)
+    (tie.spec (search needs) returns (search needs) shared-slice-read-flags read-big-requires read-big-requires-2 (search needs)
+    read-big-requires-3 read-big-requires-4 read-big-requires-5 (search needs) (search needs) returns-2)

@@ -12,46 +12,29 @@ use Rattle.frame_opcodes.specs.Opcodes.{ruleOf}
 use Rattle.frame_head.specs.Head.{pduOf, behindHead}
 use Rattle.frame_ccm.specs.Ccm.{megIn, megOf, megPlace}
 use Rattle.frame_message.proofs.There.{one, is, is-not}
+use Rattle.base_laws.proofs.Places.{at}
 use borrow.Author.Needs.{needs}
 use Rattle.frame_ccm.proofs.meg_id.Statement.{statement}
 use Rattle.frame_ccm.proofs.meg_id.Tie as tie
 
-good-opcode-requires : tie.Need-good-opcode-requires
-good-opcode-requires c κs = search needs
-
-slice-aggregate-result : tie.Need-slice-aggregate-result
-slice-aggregate-result c = search needs
-
 returns : tie.Need-returns
 unfolding megOf megPlace
-returns c = let a = c .before .before .before .before .args .frame in
-    let h = c .before .before .good-opcode .ensures in (
+returns c = let a = at tie.Start (search) .args .frame in
+    let h = at tie.After-good-opcode (search) .good-opcode .ensures in (
       sym (is-not (now a) refl h (megIn (pduOf (now a))) [] 1 (c .before .if1 .taken)),
       sym (is-not (now a) refl h (ptr a .0, behindHead 10 + ptr a .1) (ptr a) 1 (c .before .if1 .taken)),
     )
 
-add-result : tie.Need-add-result
-add-result c = search needs
-
-add-result-2 : tie.Need-add-result-2
-add-result-2 c = search needs
-
-sub-result : tie.Need-sub-result
-sub-result c = search needs
-
-part-result-start : tie.Need-part-result-start
-part-result-start c = search needs
-
 part-result-end : tie.Need-part-result-end
 unfolding ruleOf choose
-part-result-end c = let f = now (c .before .before .before .args .frame) in
+part-result-end c = let f = now (at tie.Start (search) .args .frame) in
     let long = one f refl (c .before .good-opcode .ensures) 1 70 (c .if1 .left) (omega arith) refl in
     omega (arith, long, length-drop 14 f)
 
 returns-2 : tie.Need-returns-2
 unfolding megOf megPlace part
-returns-2 c = let a = c .before .before .before .before .args .frame in
-    let h = c .before .before .good-opcode .ensures in (
+returns-2 c = let a = at tie.Start (search) .args .frame in
+    let h = at tie.After-good-opcode (search) .good-opcode .ensures in (
       sym (part-drop 14 10 48 (now a)) ∙ sym (is (now a) refl h (megIn (pduOf (now a))) [] 1 (c .before .if1 .left)),
       sym (is (now a) refl h (ptr a .0, behindHead 10 + ptr a .1) (ptr a) 1 (c .before .if1 .left)),
     )
@@ -59,13 +42,4 @@ returns-2 c = let a = c .before .before .before .before .args .frame in
 pub meg-id-spec : {M : Type 1} → statement M
 meg-id-spec =
     tie.close
-    (tie.spec
-    good-opcode-requires
-    slice-aggregate-result
-    returns
-    add-result
-    add-result-2
-    sub-result
-    part-result-start
-    part-result-end
-    returns-2)
+    (tie.spec (search needs) (search needs) returns (search needs) (search needs) (search needs) (search needs) part-result-end returns-2)

@@ -9,40 +9,23 @@ use lib.ListN.{length}
 use borrow.Author.Tests.{lt-ltb, le-ltb}
 use Rattle.base_laws.specs.Lists.{part}
 use Rattle.frame_head.specs.Head.{destinationOf}
+use Rattle.base_laws.proofs.Places.{at}
 use borrow.Author.Needs.{needs}
 use Rattle.frame_head.proofs.destination.Statement.{statement}
 use Rattle.frame_head.proofs.destination.Tie as tie
 
-slice-aggregate-result : tie.Need-slice-aggregate-result
-slice-aggregate-result c = search needs
-
 returns : tie.Need-returns
-returns c = let a = c .before .before .args .frame in
+returns c = let a = at tie.Start (search) .args .frame in
     let e = sym (lt-ltb (length (now a)) 14 (omega arith)) in
     (ap (λ (t : Bool). cond t [] (destinationOf (now a))) e, ap (λ (t : Bool). cond t (ptr a) (ptr a .0, 0 + ptr a .1)) e)
 
-sub-result : tie.Need-sub-result
-sub-result c = search needs
-
-part-result-start : tie.Need-part-result-start
-part-result-start c = search needs
-
-part-result-end : tie.Need-part-result-end
-part-result-end c = search needs
-
 returns-2 : tie.Need-returns-2
 unfolding part
-returns-2 c = let a = c .before .before .args .frame in
+returns-2 c = let a = at tie.Start (search) .args .frame in
     let e = sym (le-ltb (length (now a)) 14 (omega arith)) in
     (ap (λ (t : Bool). cond t [] (destinationOf (now a))) e, ap (λ (t : Bool). cond t (ptr a) (ptr a .0, 0 + ptr a .1)) e)
 
 pub destination-spec : {M : Type 1} → statement M
 destination-spec =
     tie.close
-    (tie.spec
-    slice-aggregate-result
-    returns
-    sub-result
-    part-result-start
-    part-result-end
-    returns-2)
+    (tie.spec (search needs) returns (search needs) (search needs) (search needs) returns-2)

@@ -6,6 +6,7 @@ use native.Mathlib.Omega.{arith}
 use denote.Ref.{now}
 use lib.ListN.{length}
 use Rattle.frame_head.specs.Head.{levelOf}
+use Rattle.base_laws.proofs.Places.{at}
 use borrow.Author.Needs.{needs}
 use Rattle.frame_head.proofs.level.Statement.{statement}
 use Rattle.frame_head.proofs.level.Tie as tie
@@ -15,22 +16,13 @@ none : (p : List ℕ) → length p ≡ 0 → levelOf p ≡ 0
 none [] h = refl
 none (x ∷ p) h = absurd (omega arith)
 
-pdu-of-requires : tie.Need-pdu-of-requires
-pdu-of-requires c κs = search needs
-
 returns : tie.Need-returns
 returns c = sym (none (now (c .before .pdu-of .result)) (c .if1 .taken)) ∙ ap levelOf (c .before .pdu-of .ensures .0)
 
-shared-slice-read-level-of : tie.Need-shared-slice-read-level-of
-shared-slice-read-level-of c = search needs
-
-level-of-requires : tie.Need-level-of-requires
-level-of-requires c κs = search needs
-
 returns-2 : tie.Need-returns-2
-returns-2 c = c .level-of .ensures .0 ∙ ap levelOf (c .before .before .before .pdu-of .ensures .0)
+returns-2 c = c .level-of .ensures .0 ∙ ap levelOf (at tie.After-pdu-of (search) .pdu-of .ensures .0)
 
 pub level-spec : {M : Type 1} → statement M
 level-spec =
     tie.close
-    (tie.spec pdu-of-requires returns shared-slice-read-level-of level-of-requires returns-2)
+    (tie.spec (search needs) returns (search needs) (search needs) returns-2)

@@ -11,6 +11,7 @@ use Rattle.frame_head.specs.Head.{pduOf, word}
 use Rattle.frame_measures.specs.declared.LossFields.{LossFields}
 use Rattle.frame_measures.specs.Measures.{lossIn, noLoss, lossOf}
 use Rattle.frame_message.proofs.There.{two, either}
+use Rattle.base_laws.proofs.Places.{at}
 use borrow.Author.Needs.{needs}
 use Rattle.frame_measures.proofs.loss_fields.Statement.{statement}
 use Rattle.frame_measures.proofs.loss_fields.Tie as tie
@@ -19,47 +20,40 @@ use Rattle.frame_measures.proofs.loss_fields.Tie as tie
 made : (p : List ℕ) (x y z : ℕ) → x ≡ word 4 p → y ≡ word 8 p → z ≡ word 12 p → record { txfcf = x; rxfcf = y; txfcb = z } ≡ lossIn p
 made p x y z e f g = cc
 
-good-opcode-requires : tie.Need-good-opcode-requires
-good-opcode-requires c κs = search needs
-
 returns : tie.Need-returns
 unfolding lossOf
-returns c = let f = now (c .before .before .before .args .frame) in
+returns c = let f = now (at tie.Start (search) .args .frame) in
     sym (either f refl (c .before .good-opcode .ensures) (lossIn (pduOf f)) noLoss 43 42 true (c .if1 .taken))
-
-pdu-of-requires : tie.Need-pdu-of-requires
-pdu-of-requires c κs = search needs
 
 read-big-requires : tie.Need-read-big-requires
 unfolding ruleOf choose
-read-big-requires c κs = let long = two (now (c .before .before .before .before .args .frame)) (c .pdu-of .ensures .0) (c .before .before .good-opcode .ensures) 43 42 12 (c .before .if1 .left) (omega arith) (omega arith) refl refl in
+read-big-requires c κs = let long = two (now (at tie.Start (search) .args .frame)) (c .pdu-of .ensures .0)
+    (at tie.After-good-opcode (search) .good-opcode .ensures) 43 42 12 (c .before .if1 .left) (omega arith) (omega arith) refl refl in
     (omega arith, omega (arith, long))
 
 read-big-requires-2 : tie.Need-read-big-requires-2
 unfolding ruleOf choose
-read-big-requires-2 c κs = let long = two (now (c .before .before .before .before .before .args .frame)) (c .before .pdu-of .ensures .0) (c .before .before .before .good-opcode .ensures) 43 42 12 (c .before .before .if1 .left) (omega arith) (omega arith) refl refl in
+read-big-requires-2 c κs = let long = two (now (at tie.Start (search) .args .frame)) (c .before .pdu-of .ensures .0)
+    (at tie.After-good-opcode (search) .good-opcode .ensures) 43 42 12 (at tie.Else1 (search) .if1 .left) (omega arith) (omega arith) refl
+    refl in
     (omega arith, omega (arith, long))
 
 read-big-requires-3 : tie.Need-read-big-requires-3
 unfolding ruleOf choose
-read-big-requires-3 c κs = let long = two (now (c .before .before .before .before .before .before .args .frame)) (c .before .before .pdu-of .ensures .0) (c .before .before .before .before .good-opcode .ensures) 43 42 12 (c .before .before .before .if1 .left) (omega arith) (omega arith) refl refl in
+read-big-requires-3 c κs = let long = two (now (at tie.Start (search) .args .frame)) (at tie.After-pdu-of (search) .pdu-of .ensures .0)
+    (at tie.After-good-opcode (search) .good-opcode .ensures) 43 42 12 (at tie.Else1 (search) .if1 .left) (omega arith) (omega arith) refl
+    refl in
     (omega arith, omega (arith, long))
 
 returns-2 : tie.Need-returns-2
 unfolding lossOf
-returns-2 c = let f = now (c .before .before .before .before .before .before .before .args .frame) in
-    made _ _ _ _ (c .before .before .read-big .ensures .is) (c .before .read-big2 .ensures .is) (c .read-big3 .ensures .is)
-    ∙ ap lossIn (c .before .before .before .pdu-of .ensures .0)
-    ∙ sym (either f refl (c .before .before .before .before .before .good-opcode .ensures) (lossIn (pduOf f)) noLoss 43 42 false (c .before .before .before .before .if1 .left))
+returns-2 c = let f = now (at tie.Start (search) .args .frame) in
+    made _ _ _ _ (at tie.After-read-big (search) .read-big .ensures .is) (c .before .read-big2 .ensures .is) (c .read-big3 .ensures .is)
+    ∙ ap lossIn (at tie.After-pdu-of (search) .pdu-of .ensures .0)
+    ∙ sym (either f refl (at tie.After-good-opcode (search) .good-opcode .ensures) (lossIn (pduOf f)) noLoss 43 42 false
+    (at tie.Else1 (search) .if1 .left))
 
 pub loss-fields-spec : {M : Type 1} → statement M
 loss-fields-spec =
     tie.close
-    (tie.spec
-    good-opcode-requires
-    returns
-    pdu-of-requires
-    read-big-requires
-    read-big-requires-2
-    read-big-requires-3
-    returns-2)
+    (tie.spec (search needs) returns (search needs) read-big-requires read-big-requires-2 read-big-requires-3 returns-2)

@@ -5,14 +5,9 @@ use borrow.Author.Needs.{needs}
 use Rattle.frame_message.proofs.good_opcode.Statement.{statement}
 use Rattle.frame_message.proofs.good_opcode.Tie as tie
 
-message-answer-requires : tie.Need-message-answer-requires
-message-answer-requires c κs = search needs
-
-tell-requires : tie.Need-tell-requires
-tell-requires c κs = search needs
-
 returns : tie.Need-returns
 returns c = ap (λ (t : MessageTold). t .opcode) (c .tell .ensures ∙ c .before .message-answer .ensures .1)
 
 pub good-opcode-spec : {M : Type 1} → statement M
-good-opcode-spec = tie.close (tie.spec message-answer-requires tell-requires returns)
+good-opcode-spec = tie.close
+    (tie.spec (search needs) (search needs) returns)

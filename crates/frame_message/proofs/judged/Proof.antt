@@ -6,6 +6,7 @@ use Rattle.frame_opcodes.specs.declared.Rule.{Rule}
 use Rattle.frame_opcodes.specs.Opcodes.{ruleOf}
 use Rattle.frame_message_answer.specs.declared.MessageAnswer.the-variants.{Message, PeriodCode}
 use Rattle.frame_message.specs.Message.{periodCode, codeGood, judgedOf}
+use Rattle.base_laws.proofs.Places.{at}
 use borrow.Author.Needs.{needs}
 use Rattle.frame_message.proofs.judged.Statement.{statement}
 use Rattle.frame_message.proofs.judged.Tie as tie
@@ -16,28 +17,21 @@ judged-is : (op flags : ℕ) (r : Rule) (k : ℕ) (b : Bool) → r ≡ ruleOf op
 unfolding judgedOf
 judged-is op flags r k b e f g = rw (g, f, e)
 
-rule-of-requires : tie.Need-rule-of-requires
-rule-of-requires c κs = search needs
-
-period-code-of-requires : tie.Need-period-code-of-requires
-period-code-of-requires c κs = search needs
-
-code-good-requires : tie.Need-code-good-requires
-code-good-requires c κs = search needs
-
 returns : tie.Need-returns
-returns c = let m = c .before .before .before .rule-of in
-    let op = c .before .before .before .before .args .opcode in
+returns c = let m = at tie.After-rule-of (search) .rule-of in
+    let op = at tie.Start (search) .args .opcode in
     ap (λ (b : Bool). cond b (Message op) PeriodCode) (sym (c .if1 .taken))
-    ∙ judged-is _ _ (m .result) _ _ (m .ensures) (c .before .before .period-code-of .ensures) (c .before .code-good .ensures)
+    ∙ judged-is _ _ (m .result) _ _ (m .ensures) (at tie.After-period-code-of (search) .period-code-of .ensures)
+    (c .before .code-good .ensures)
 
 returns-2 : tie.Need-returns-2
-returns-2 c = let m = c .before .before .before .rule-of in
-    let op = c .before .before .before .before .args .opcode in
+returns-2 c = let m = at tie.After-rule-of (search) .rule-of in
+    let op = at tie.Start (search) .args .opcode in
     ap (λ (b : Bool). cond b (Message op) PeriodCode) (sym (c .if1 .left))
-    ∙ judged-is _ _ (m .result) _ _ (m .ensures) (c .before .before .period-code-of .ensures) (c .before .code-good .ensures)
+    ∙ judged-is _ _ (m .result) _ _ (m .ensures) (at tie.After-period-code-of (search) .period-code-of .ensures)
+    (c .before .code-good .ensures)
 
 pub judged-spec : {M : Type 1} → statement M
 judged-spec =
     tie.close
-    (tie.spec rule-of-requires period-code-of-requires code-good-requires returns returns-2)
+    (tie.spec (search needs) (search needs) (search needs) returns returns-2)

@@ -8,6 +8,7 @@ use denote.Ref.{now}
 use lib.Dec.{eqb}
 use lib.ListN.{getD}
 use lib.Seq.{length-take-le}
+use Rattle.base_laws.proofs.Places.{at}
 use borrow.Author.Needs.{needs}
 use Rattle.base_laws.specs.Lists.{same}
 use Rattle.base_laws.proofs.Lists.{same-last}
@@ -17,39 +18,20 @@ use Rattle.frame_multicast.proofs.is_multicast.Statement.{statement}
 use Rattle.frame_multicast.proofs.is_multicast.Tie as tie
 
 returns : tie.Need-returns
-returns c = let a = c .before .before .args in
+returns c = let a = at tie.Start (search) .args in
     sym (pair-lengths eqb (now (a .address)) (multicastOf (a .level)) (c .if1 .taken))
 
 slice-aggregate-same-octets : tie.Need-slice-aggregate-same-octets
-slice-aggregate-same-octets c = sym (length-take-le _ (now (c .before .before .before .args .address)) (omega arith))
-
-slice-aggregate-same-octets-2 : tie.Need-slice-aggregate-same-octets-2
-slice-aggregate-same-octets-2 c = search needs
-
-same-octets-requires : tie.Need-same-octets-requires
-same-octets-requires c κs = search needs
-
-shared-slice-read-result : tie.Need-shared-slice-read-result
-shared-slice-read-result c = search needs
-
-last-of-requires : tie.Need-last-of-requires
-last-of-requires c κs = search needs
+slice-aggregate-same-octets c = sym (length-take-le _ (now (at tie.Start (search) .args .address)) (omega arith))
 
 returns-2 : tie.Need-returns-2
-returns-2 c = let a = c .before .before .before .before .before .before .before .args in
+returns-2 c = let a = at tie.Start (search) .args in
     let l = now (a .address) in
-    ap (λ (b : Bool). b && eqb (getD l 5 0) (c .last-of .result)) (c .before .before .same-octets .ensures)
+    ap (λ (b : Bool). b && eqb (getD l 5 0) (c .last-of .result)) (at tie.After-same-octets (search) .same-octets .ensures)
     ∙ sym (same-last l prefix (c .last-of .result) (omega arith))
     ∙ ap (λ (x : ℕ). same l (prefix ++ (x ∷ []))) (c .last-of .ensures)
 
 pub is-multicast-spec : {M : Type 1} → statement M
 is-multicast-spec =
     tie.close
-    (tie.spec
-    returns
-    slice-aggregate-same-octets
-    slice-aggregate-same-octets-2
-    same-octets-requires
-    shared-slice-read-result
-    last-of-requires
-    returns-2)
+    (tie.spec returns slice-aggregate-same-octets (search needs) (search needs) (search needs) (search needs) returns-2)

@@ -2,6 +2,7 @@
 use mathlib.Core.Path.{_≡_, sym, ap, _∙_}
 use mathlib.Core.List.{List}
 use Prim.Native.Nat.{ℕ}
+use Rattle.base_laws.proofs.Places.{at}
 use borrow.Author.Needs.{needs}
 use Rattle.frame_reader.specs.Reader.{answerAt, answerOf}
 use Rattle.frame_reader_answer.specs.declared.TlvAnswer.{TlvAnswer}
@@ -15,31 +16,19 @@ use Rattle.frame_reader.proofs.tlv_answer.Tie as tie
 kept : (f : List ℕ) (kind : ℕ) (a : TlvAnswer) → a ≡ answerOf f kind → (a ≡ answerOf f kind) × (told a ≡ numbersOf f kind)
 kept f kind a e = (e, ap told e ∙ agree f kind)
 
-seek-frame-requires : tie.Need-seek-frame-requires
-seek-frame-requires c κs = search needs
-
-enum-told : tie.Need-enum-told
-enum-told c = search needs
-
-enum-told-2 : tie.Need-enum-told-2
-enum-told-2 c = search needs
-
-enum-known-b : tie.Need-enum-known-b
-enum-known-b c = search needs
-
 returns : tie.Need-returns
 unfolding answerOf
-returns c = kept _ _ _ (sym (ap answerAt (sym (c .before .before .seek-frame .ensures .0) ∙ c .enum-told .given .1)))
+returns c = kept _ _ _ (sym (ap answerAt (sym (at tie.After-seek-frame (search) .seek-frame .ensures .0) ∙ c .enum-told .given .1)))
 
 returns-2 : tie.Need-returns-2
 unfolding answerOf
-returns-2 c = kept _ _ _ (sym (ap answerAt (sym (c .before .before .seek-frame .ensures .0) ∙ c .enum-told2 .given .1)))
+returns-2 c = kept _ _ _ (sym (ap answerAt (sym (at tie.After-seek-frame (search) .seek-frame .ensures .0) ∙ c .enum-told2 .given .1)))
 
 returns-3 : tie.Need-returns-3
 unfolding answerOf
-returns-3 c = kept _ _ _ (sym (ap answerAt (sym (c .before .before .before .seek-frame .ensures .0) ∙ c .before .b .given .1)))
+returns-3 c = kept _ _ _ (sym (ap answerAt (sym (at tie.After-seek-frame (search) .seek-frame .ensures .0) ∙ c .before .b .given .1)))
 
 pub tlv-answer-spec : {M : Type 1} → statement M
 tlv-answer-spec =
     tie.close
-    (tie.spec seek-frame-requires enum-told enum-told-2 enum-known-b returns returns-2 returns-3)
+    (tie.spec (search needs) (search needs) (search needs) (search needs) returns returns-2 returns-3)

@@ -5,21 +5,6 @@ use Rattle.frame_reader_answer.specs.Told.{badOf}
 use Rattle.frame_reader_answer.proofs.tell_bad.Statement.{statement}
 use Rattle.frame_reader_answer.proofs.tell_bad.Tie as tie
 
-enum-told : tie.Need-enum-told
-enum-told c = search needs
-
-enum-told-2 : tie.Need-enum-told-2
-enum-told-2 c = search needs
-
-enum-told-3 : tie.Need-enum-told-3
-enum-told-3 c = search needs
-
-enum-told-4 : tie.Need-enum-told-4
-enum-told-4 c = search needs
-
-enum-told-5 : tie.Need-enum-told-5
-enum-told-5 c = search needs
-
 returns : tie.Need-returns
 unfolding badOf
 returns c = sym (ap badOf (c .enum-told .given .1))
@@ -43,14 +28,4 @@ returns-5 c = sym (ap badOf (c .enum-told5 .given .1))
 pub tell-bad-spec : {M : Type 1} → statement M
 tell-bad-spec =
     tie.close
-    (tie.spec
-    enum-told
-    enum-told-2
-    enum-told-3
-    enum-told-4
-    enum-told-5
-    returns
-    returns-2
-    returns-3
-    returns-4
-    returns-5)
+    (tie.spec (search needs) (search needs) (search needs) (search needs) (search needs) returns returns-2 returns-3 returns-4 returns-5)

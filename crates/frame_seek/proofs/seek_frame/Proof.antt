@@ -6,6 +6,7 @@ use mathlib.Core.List.{List}
 use Prim.Native.Nat.{ℕ, _+_, _-_, _≤_}
 use denote.Ref.{now}
 use lib.ListN.{length, take, drop}
+use Rattle.base_laws.proofs.Places.{at}
 use borrow.Author.Needs.{needs}
 use Rattle.base_laws.proofs.Loops.{part-rest}
 use Rattle.frame_seek.specs.declared.Seek.the-variants as seek
@@ -17,19 +18,19 @@ use Rattle.frame_seek.proofs.seek_frame.Statement.{statement}
 use Rattle.frame_seek.proofs.seek_frame.Tie as tie
 
 -- where the TLVs start somewhere, the frame has a PDU
-pdu-there : (c : tie.After-known-told2) → 14 ≤ length (now (c .before .before .before .before .before .args .frame))
-pdu-there c = long _ _ (sym (c .before .before .before .judge-frame .ensures) ∙ c .before .start .given .1)
+pdu-there : (c : tie.After-known-told2) → 14 ≤ length (now (at tie.Start (search) .args .frame))
+pdu-there c = long _ _ (sym (at tie.After-judge-frame (search) .judge-frame .ensures) ∙ c .before .start .given .1)
 
 -- both walks go over the frame's PDU, and the first tells whether it is cut
 module _ (c : tie.After-is-cut) where
   abbrev frame : List ℕ
-  frame = now (c .before .before .before .before .before .before .before .before .args .frame)
+  frame = now (at tie.Start (search) .args .frame)
 
   abbrev kind : ℕ
-  kind = c .before .before .before .before .before .before .before .before .args .kind
+  kind = at tie.Start (search) .args .kind
 
   abbrev start : ℕ
-  start = c .before .before .before .before .start .given .0 .0
+  start = at tie.After-start (search) .start .given .0 .0
 
   rest : take (length frame - 14) (drop 14 frame) ≡ drop 14 frame
   rest = part-rest frame 14
@@ -41,32 +42,25 @@ module _ (c : tie.After-is-cut) where
   found = walkFrom kind start (drop 14 frame)
 
   sought : seekOf frame kind ≡ inFrame (whole ending found)
-  sought = seek-tlvs frame kind start (sym (c .before .before .before .before .before .before .judge-frame .ensures) ∙ c .before .before .before .before .start .given .1)
+  sought = seek-tlvs frame kind start (sym (at tie.After-judge-frame (search) .judge-frame .ensures)
+      ∙ at tie.After-start (search) .start .given .1)
 
   ended : isCut ending ≡ c .is-cut .result
   ended = ap isCut (sym (c .before .walk .ensures .0 ∙ ap (walkFrom 0 start) rest)) ∙ sym (c .is-cut .ensures)
 
 -- past the first test the walk for the type decides
 module _ (c : tie.After-walk2) where
-  is : inFrame (wanted (c .walk2 .result)) ≡ seekOf (frame (c .before .before)) (kind (c .before .before))
+  is : inFrame (wanted (c .walk2 .result)) ≡ seekOf (frame (at tie.After-is-cut (search))) (kind (at tie.After-is-cut (search)))
   is =
-      let b = c .before .before in
-      sym (sought b ∙ ap inFrame (whole-uncut (ending b) (found b) (ended b ∙ c .before .if1 .left) ∙ ap wanted (sym (c .walk2 .ensures .0 ∙ ap (walkFrom (kind b) (start b)) (rest b)))))
+      let b = at tie.After-is-cut (search) in
+      sym (sought b ∙ ap inFrame (whole-uncut (ending b) (found b) (ended b ∙ c .before .if1 .left)
+      ∙ ap wanted (sym (c .walk2 .ensures .0 ∙ ap (walkFrom (kind b) (start b)) (rest b)))))
 
-  inside : Inside (drop 14 (frame (c .before .before))) (c .walk2 .result)
-  inside = rw (rest (c .before .before)) at (c .walk2 .ensures .1)
-
-judge-frame-requires : tie.Need-judge-frame-requires
-judge-frame-requires c κs = search needs
-
-enum-known-b : tie.Need-enum-known-b
-enum-known-b c = search needs
+  inside : Inside (drop 14 (frame (at tie.After-is-cut (search)))) (c .walk2 .result)
+  inside = rw (rest (at tie.After-is-cut (search))) at (c .walk2 .ensures .1)
 
 returns : tie.Need-returns
-returns c = (sym (seek-bad _ _ _ (sym (c .before .before .before .judge-frame .ensures) ∙ c .before .b .given .1)), tt)
-
-enum-known-start : tie.Need-enum-known-start
-enum-known-start c = search needs
+returns c = (sym (seek-bad _ _ _ (sym (at tie.After-judge-frame (search) .judge-frame .ensures) ∙ c .before .b .given .1)), tt)
 
 sub-pdu : tie.Need-sub-pdu
 sub-pdu c = pdu-there c
@@ -74,71 +68,38 @@ sub-pdu c = pdu-there c
 part-pdu-start : tie.Need-part-pdu-start
 part-pdu-start c = omega (arith, pdu-there c)
 
-part-pdu-end : tie.Need-part-pdu-end
-part-pdu-end c = search needs
-
-walk-requires : tie.Need-walk-requires
-walk-requires c κs = search needs
-
-is-cut-requires : tie.Need-is-cut-requires
-is-cut-requires c κs = search needs
-
 returns-2 : tie.Need-returns-2
-returns-2 c = (sym (sought (c .before) ∙ ap inFrame (whole-cut (ending (c .before)) (found (c .before)) (ended (c .before) ∙ c .if1 .taken))), tt)
-
-walk-requires-2 : tie.Need-walk-requires-2
-walk-requires-2 c κs = search needs
-
-enum-known-at : tie.Need-enum-known-at
-enum-known-at c = search needs
+returns-2 c = (
+  sym (sought (c .before)
+      ∙ ap inFrame (whole-cut (ending (c .before)) (found (c .before)) (ended (c .before) ∙ c .if1 .taken))),
+  tt,
+)
 
 -- a value that is found lies in the frame
 module _ (c : tie.After-known-told3) where
-  fits : 14 + c .before .at .given .0 .0 + c .before .at .given .0 .1 .0 ≤ length (frame (c .before .before .before .before .before))
-  fits = within (frame (c .before .before .before .before .before)) (seek.Value (c .before .at .given .0 .0) (c .before .at .given .0 .1 .0))
-      (pdu-there (c .before .before .before .before .before .before .before .before))
+  fits : 14 + c .before .at .given .0 .0 + c .before .at .given .0 .1 .0 ≤ length (frame (at tie.After-is-cut (search)))
+  fits = within (frame (at tie.After-is-cut (search)))
+      (seek.Value (c .before .at .given .0 .0) (c .before .at .given .0 .1 .0))
+      (pdu-there (at tie.After-known-told2 (search)))
       (rw (c .before .at .given .1) at (inside (c .before .before .before)))
 
 add-t19 : tie.Need-add-t19
 add-t19 c = let w = fits c in omega arith
 
-enum-told : tie.Need-enum-told
-enum-told c = search needs
-
-enum-told-2 : tie.Need-enum-told-2
-enum-told-2 c = search needs
-
 returns-3 : tie.Need-returns-3
-returns-3 c = let w = c .before .before .before in
+returns-3 c = let w = at tie.After-walk2 (search) in
     (ap (λ p. inFrame (wanted p)) (sym (c .before .at .given .1)) ∙ is w, fits c)
 
 returns-4 : tie.Need-returns-4
-returns-4 c = let w = c .before .before in
+returns-4 c = let w = at tie.After-walk2 (search) in
     (ap (λ p. inFrame (wanted p)) (sym (c .enum-told .given .1)) ∙ is w, tt)
 
 returns-5 : tie.Need-returns-5
-returns-5 c = let w = c .before .before in
+returns-5 c = let w = at tie.After-walk2 (search) in
     (ap (λ p. inFrame (wanted p)) (sym (c .enum-told2 .given .1)) ∙ is w, tt)
 
 pub seek-frame-spec : {M : Type 1} → statement M
 seek-frame-spec =
     tie.close
-    (tie.spec
-    judge-frame-requires
-    enum-known-b
-    returns
-    enum-known-start
-    sub-pdu
-    part-pdu-start
-    part-pdu-end
-    walk-requires
-    is-cut-requires
-    returns-2
-    walk-requires-2
-    enum-known-at
-    add-t19
-    enum-told
-    enum-told-2
-    returns-3
-    returns-4
-    returns-5)
+    (tie.spec (search needs) (search needs) returns (search needs) sub-pdu part-pdu-start (search needs) (search needs) (search needs)
+    returns-2 (search needs) (search needs) add-t19 (search needs) (search needs) returns-3 returns-4 returns-5)

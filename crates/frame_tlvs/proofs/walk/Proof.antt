@@ -5,6 +5,7 @@ use mathlib.Core.Path.{_≡_, refl, ap, sym, _∙_}
 use Prim.Native.Nat.{ℕ, _+_, _-_, _≤_}
 use denote.Ref.{now}
 use lib.ListN.{length}
+use Rattle.base_laws.proofs.Places.{at}
 use Rattle.frame_tlvs.specs.declared.Place.{Place}
 use Rattle.frame_tlvs.specs.declared.Place.the-variants.{Found}
 use Rattle.frame_tlvs.specs.Tlvs.{walkFrom}
@@ -19,8 +20,11 @@ abbrev μ-loop : tie.MeasureT-loop
 μ-loop pdu kind start at₀ at = length pdu - at
 
 -- where the walk at the loop's head stops, the walk from the start stops
-stop : (l : tie.At-loop Inv-loop μ-loop) {p : Place} → walkFrom (l .before .before .args .kind) (l .loop .at) (now (l .before .before .args .pdu)) ≡ p
-    → p ≡ walkFrom (l .before .before .args .kind) (l .before .before .args .start) (now (l .before .before .args .pdu))
+stop : (l : tie.At-loop Inv-loop μ-loop) {p : Place}
+    → walkFrom (at (tie.Start Inv-loop μ-loop) (search) .args .kind) (l .loop .at)
+    (now (at (tie.Start Inv-loop μ-loop) (search) .args .pdu)) ≡ p
+    → p ≡ walkFrom (at (tie.Start Inv-loop μ-loop) (search) .args .kind) (at (tie.Start Inv-loop μ-loop) (search) .args .start)
+    (now (at (tie.Start Inv-loop μ-loop) (search) .args .pdu))
 stop l e = sym e ∙ l .loop .inv
 
 loop-holds : tie.Need-loop-holds Inv-loop μ-loop
@@ -60,61 +64,48 @@ loop-less : tie.Need-loop-less Inv-loop μ-loop
 loop-less c = omega arith
 
 loop-again : tie.Need-loop-again Inv-loop μ-loop
-loop-again c = let l = c .before .before .before .before .before .before .before in
-    let a = l .before .before .args in
-    ap (λ (k : ℕ). walkFrom (a .kind) (l .loop .at + 3 + k) (now (a .pdu))) (c .before .before .read-big .ensures .is)
-    ∙ stop l (next (a .kind) (l .loop .at) (now (a .pdu)) (omega arith) (c .before .before .before .before .if2 .left) (omega (arith, c .before .before .read-big .ensures .is)) (c .if5 .left))
+loop-again c = let l = at (tie.At-loop Inv-loop μ-loop) (search) in
+    let a = at (tie.Start Inv-loop μ-loop) (search) .args in
+    ap (λ (k : ℕ). walkFrom (a .kind) (l .loop .at + 3 + k) (now (a .pdu)))
+    (at (tie.After-read-big Inv-loop μ-loop) (search) .read-big .ensures .is)
+    ∙ stop l (next (a .kind) (l .loop .at) (now (a .pdu)) (omega arith) (at (tie.Else2 Inv-loop μ-loop) (search) .if2 .left)
+    (omega (arith, at (tie.After-read-big Inv-loop μ-loop) (search) .read-big .ensures .is)) (c .if5 .left))
 
 returns : tie.Need-returns Inv-loop μ-loop
 returns c = let l = c .before in
-    let a = l .before .before .args in
+    let a = at (tie.Start Inv-loop μ-loop) (search) .args in
     (stop l (past (a .kind) (l .loop .at) (now (a .pdu)) (c .if1 .taken)), tt)
 
 returns-2 : tie.Need-returns-2 Inv-loop μ-loop
-returns-2 c = let l = c .before .before .before in
-    let a = l .before .before .args in
+returns-2 c = let l = at (tie.At-loop Inv-loop μ-loop) (search) in
+    let a = at (tie.Start Inv-loop μ-loop) (search) .args in
     (stop l (ended (a .kind) (l .loop .at) (now (a .pdu)) (omega arith) (c .if2 .taken)), tt)
 
 returns-3 : tie.Need-returns-3 Inv-loop μ-loop
-returns-3 c = let l = c .before .before .before .before in
-    let a = l .before .before .args in
+returns-3 c = let l = at (tie.At-loop Inv-loop μ-loop) (search) in
+    let a = at (tie.Start Inv-loop μ-loop) (search) .args in
     (stop l (cut (a .kind) (l .loop .at) (now (a .pdu)) (omega arith) (c .before .if2 .left) (omega arith)), tt)
 
 returns-4 : tie.Need-returns-4 Inv-loop μ-loop
-returns-4 c = let l = c .before .before .before .before .before .before in
-    let a = l .before .before .args in
-    (stop l (cut (a .kind) (l .loop .at) (now (a .pdu)) (omega arith) (c .before .before .before .if2 .left) (omega (arith, c .before .read-big .ensures .is))), tt)
+returns-4 c = let l = at (tie.At-loop Inv-loop μ-loop) (search) in
+    let a = at (tie.Start Inv-loop μ-loop) (search) .args in (
+      stop l (cut (a .kind) (l .loop .at) (now (a .pdu)) (omega arith) (at (tie.Else2 Inv-loop μ-loop) (search) .if2 .left)
+          (omega (arith, c .before .read-big .ensures .is))),
+      tt,
+    )
 
 returns-5 : tie.Need-returns-5 Inv-loop μ-loop
-returns-5 c = let l = c .before .before .before .before .before .before .before in
-    let a = l .before .before .args in
-    let n = c .before .before .read-big in (
+returns-5 c = let l = at (tie.At-loop Inv-loop μ-loop) (search) in
+    let a = at (tie.Start Inv-loop μ-loop) (search) .args in
+    let n = at (tie.After-read-big Inv-loop μ-loop) (search) .read-big in (
       ap (λ (k : ℕ). Found (l .loop .at + 3) k) (n .ensures .is)
-          ∙ stop l (found (a .kind) (l .loop .at) (now (a .pdu)) (omega arith) (c .before .before .before .before .if2 .left) (omega (arith, n .ensures .is)) (c .if5 .taken)),
+          ∙ stop l (found (a .kind) (l .loop .at) (now (a .pdu)) (omega arith) (at (tie.Else2 Inv-loop μ-loop) (search) .if2 .left)
+          (omega (arith, n .ensures .is)) (c .if5 .taken)),
       omega arith,
     )
 
 pub walk-spec : {M : Type 1} → statement M
 walk-spec =
     tie.close
-    (tie.spec
-    Inv-loop
-    μ-loop
-    loop-holds
-    shared-slice-read-t
-    sub-if3
-    add-read-big
-    read-big-requires
-    cast-n
-    sub-if4
-    sub-if4-2
-    add-t16
-    add-at
-    add-at-2
-    loop-less
-    loop-again
-    returns
-    returns-2
-    returns-3
-    returns-4
-    returns-5)
+    (tie.spec Inv-loop μ-loop loop-holds shared-slice-read-t sub-if3 add-read-big read-big-requires cast-n sub-if4 sub-if4-2 add-t16 add-at
+    add-at-2 loop-less loop-again returns returns-2 returns-3 returns-4 returns-5)

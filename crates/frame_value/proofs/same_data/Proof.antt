@@ -3,6 +3,7 @@ use mathlib.Core.Path.{ap, ap₂, _∙_}
 use mathlib.Core.List.{List}
 use Prim.Native.Nat.{ℕ}
 use denote.Ref.{now}
+use Rattle.base_laws.proofs.Places.{at}
 use borrow.Author.Needs.{needs}
 use Rattle.base_laws.specs.Lists.{same}
 use Rattle.frame_value.specs.Values.{outcomeOf}
@@ -10,25 +11,14 @@ use Rattle.frame_value.proofs.Numbers.{numbered}
 use Rattle.frame_value.proofs.same_data.Statement.{statement}
 use Rattle.frame_value.proofs.same_data.Tie as tie
 
-tlv-value-requires : tie.Need-tlv-value-requires
-tlv-value-requires c κs = search needs
-
-same-octets-requires : tie.Need-same-octets-requires
-same-octets-requires c κs = search needs
-
-tlv-answer-requires : tie.Need-tlv-answer-requires
-tlv-answer-requires c κs = search needs
-
-outcome-requires : tie.Need-outcome-requires
-outcome-requires c κs = search needs
-
 returns : tie.Need-returns
-returns c = let a = c .before .before .before .before .before .before .args in
+returns c = let a = at tie.Start (search) .args in
     numbered _ _ _ _ (c .outcome .ensures
     ∙ ap₂ outcomeOf (c .before .tlv-answer .ensures .0)
-    (c .before .before .same-octets .ensures ∙ ap (λ (v : List ℕ). same v (now (a .octets))) (c .before .before .before .tlv-value .ensures .0)))
+    (at tie.After-same-octets (search) .same-octets .ensures
+    ∙ ap (λ (v : List ℕ). same v (now (a .octets))) (at tie.After-tlv-value (search) .tlv-value .ensures .0)))
 
 pub same-data-spec : {M : Type 1} → statement M
 same-data-spec =
     tie.close
-    (tie.spec tlv-value-requires same-octets-requires tlv-answer-requires outcome-requires returns)
+    (tie.spec (search needs) (search needs) (search needs) (search needs) returns)

@@ -1,26 +1,12 @@
 -- `frame_value::tell` meets its contract, case by case; a bad frame's numbers are the reader's.
 use mathlib.Core.Path.{sym, ap, _∙_}
+use Rattle.base_laws.proofs.Places.{at}
 use borrow.Author.Needs.{needs}
 use Rattle.frame_reader_answer.specs.declared.TlvTold.{TlvTold}
 use Rattle.frame_reader_answer.specs.Told.{told as reader-told}
 use Rattle.frame_value.specs.Told.{numbers, told}
 use Rattle.frame_value.proofs.tell.Statement.{statement}
 use Rattle.frame_value.proofs.tell.Tie as tie
-
-enum-told : tie.Need-enum-told
-enum-told c = search needs
-
-enum-told-2 : tie.Need-enum-told-2
-enum-told-2 c = search needs
-
-enum-told-3 : tie.Need-enum-told-3
-enum-told-3 c = search needs
-
-enum-known-answer : tie.Need-enum-known-answer
-enum-known-answer c = search needs
-
-tell-requires : tie.Need-tell-requires
-tell-requires c κs = search needs
 
 returns : tie.Need-returns
 unfolding told
@@ -36,18 +22,10 @@ returns-3 c = sym (ap told (c .enum-told3 .given .1))
 
 returns-4 : tie.Need-returns-4
 unfolding told reader-told
-returns-4 c = ap (λ (t : TlvTold). numbers (t .refusal) (t .drop) 0 0) (c .tell .ensures) ∙ sym (ap told (c .before .before .answer .given .1))
+returns-4 c = ap (λ (t : TlvTold). numbers (t .refusal) (t .drop) 0 0) (c .tell .ensures)
+    ∙ sym (ap told (at tie.After-answer (search) .answer .given .1))
 
 pub tell-spec : {M : Type 1} → statement M
 tell-spec =
     tie.close
-    (tie.spec
-    enum-told
-    enum-told-2
-    enum-told-3
-    enum-known-answer
-    tell-requires
-    returns
-    returns-2
-    returns-3
-    returns-4)
+    (tie.spec (search needs) (search needs) (search needs) (search needs) (search needs) returns returns-2 returns-3 returns-4)

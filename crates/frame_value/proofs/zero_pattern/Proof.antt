@@ -8,6 +8,7 @@ use denote.Ref.{now}
 use lib.Dec.{ltb}
 use lib.ListN.{length}
 use borrow.Author.Tests.{eq-eqb, ne-eqb, lt-ltb}
+use Rattle.base_laws.proofs.Places.{at}
 use Rattle.base_laws.specs.Lists.{every}
 use Rattle.base_laws.proofs.Loops.{Tested, tested-start, tested-next, tested-fails, tested-all}
 use Rattle.frame_value.specs.Values.{isZero}
@@ -32,8 +33,8 @@ shared-slice-read-if1 : tie.Need-shared-slice-read-if1 Inv-loop μ-loop
 shared-slice-read-if1 c = omega arith
 
 returns : tie.Need-returns Inv-loop μ-loop
-returns c = let v = now (c .before .before .before .before .args .value) in
-    tested-fails (c .before .before .before .loop .inv) 0 (omega arith) (ne-eqb _ _ (c .if1 .taken))
+returns c = let v = now (at (tie.Start Inv-loop μ-loop) (search) .args .value) in
+    tested-fails (at (tie.At-loop Inv-loop μ-loop) (search) .loop .inv) 0 (omega arith) (ne-eqb _ _ (c .if1 .taken))
     ∙ sym (ap (λ (b : Bool). b && every isZero v) (lt-ltb 0 (length v) (omega arith)))
 
 add-i : tie.Need-add-i Inv-loop μ-loop
@@ -43,7 +44,7 @@ loop-less : tie.Need-loop-less Inv-loop μ-loop
 loop-less c = omega arith
 
 loop-again : tie.Need-loop-again Inv-loop μ-loop
-loop-again c = tested-next (c .before .before .before .loop .inv) 0 (omega arith) (eq-eqb _ _ (c .if1 .left))
+loop-again c = tested-next (at (tie.At-loop Inv-loop μ-loop) (search) .loop .inv) 0 (omega arith) (eq-eqb _ _ (c .if1 .left))
 
 returns-2 : tie.Need-returns-2 Inv-loop μ-loop
 returns-2 c = both _ _ (tested-all (c .before .loop .inv) (omega arith))
@@ -51,13 +52,4 @@ returns-2 c = both _ _ (tested-all (c .before .loop .inv) (omega arith))
 pub zero-pattern-spec : {M : Type 1} → statement M
 zero-pattern-spec =
     tie.close
-    (tie.spec
-    Inv-loop
-    μ-loop
-    loop-holds
-    shared-slice-read-if1
-    returns
-    add-i
-    loop-less
-    loop-again
-    returns-2)
+    (tie.spec Inv-loop μ-loop loop-holds shared-slice-read-if1 returns add-i loop-less loop-again returns-2)

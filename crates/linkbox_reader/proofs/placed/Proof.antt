@@ -3,11 +3,9 @@ use borrow.Author.Needs.{needs}
 use Rattle.linkbox_reader.proofs.placed.Statement.{statement}
 use Rattle.linkbox_reader.proofs.placed.Tie as tie
 
-tell-requires : tie.Need-tell-requires
-tell-requires c κs = search needs
-
 returns : tie.Need-returns
 returns c = rw (c .tell .ensures)
 
 pub placed-spec : {M : Type 1} → statement M
-placed-spec = tie.close (tie.spec tell-requires returns)
+placed-spec = tie.close
+    (tie.spec (search needs) returns)

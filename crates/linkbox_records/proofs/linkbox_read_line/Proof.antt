@@ -4,14 +4,9 @@ use borrow.Author.Needs.{needs}
 use Rattle.linkbox_records.proofs.linkbox_read_line.Statement.{statement}
 use Rattle.linkbox_records.proofs.linkbox_read_line.Tie as tie
 
-read-line-requires : tie.Need-read-line-requires
-read-line-requires c κs = search needs
-
-tell-requires : tie.Need-tell-requires
-tell-requires c κs = search needs
-
 returns : tie.Need-returns
 returns c = c .tell .ensures ∙ c .before .read-line .ensures .1
 
 pub linkbox-read-line-spec : {M : Type 1} → statement M
-linkbox-read-line-spec = tie.close (tie.spec read-line-requires tell-requires returns)
+linkbox-read-line-spec = tie.close
+    (tie.spec (search needs) (search needs) returns)

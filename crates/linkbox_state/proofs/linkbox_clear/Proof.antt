@@ -7,14 +7,10 @@ use borrow.Author.Needs.{needs}
 use Rattle.linkbox_state.proofs.linkbox_clear.Statement.{statement}
 use Rattle.linkbox_state.proofs.linkbox_clear.Tie as tie
 
-clear-requires : tie.Need-clear-requires
-clear-requires c κs = search needs
-
-tell-requires : tie.Need-tell-requires
-tell-requires c κs = search needs
-
 returns : tie.Need-returns
-returns c = let e = c .before .clear .ensures in (told-by (λ answer. told answer .refusal) (ap (λ (t : ClearTold). t .refusal) (c .tell .ensures)) (e .0 .0), e .1)
+returns c = let e = c .before .clear .ensures in
+    (told-by (λ answer. told answer .refusal) (ap (λ (t : ClearTold). t .refusal) (c .tell .ensures)) (e .0 .0), e .1)
 
 pub linkbox-clear-spec : {M : Type 1} → statement M
-linkbox-clear-spec = tie.close (tie.spec clear-requires tell-requires returns)
+linkbox-clear-spec = tie.close
+    (tie.spec (search needs) (search needs) returns)

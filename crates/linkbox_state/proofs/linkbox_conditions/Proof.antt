@@ -3,11 +3,6 @@ use borrow.Author.Needs.{needs}
 use Rattle.linkbox_state.proofs.linkbox_conditions.Statement.{statement}
 use Rattle.linkbox_state.proofs.linkbox_conditions.Tie as tie
 
-conditions-requires : tie.Need-conditions-requires
-conditions-requires c κs = search needs
-
-returns : tie.Need-returns
-returns c = search needs
-
 pub linkbox-conditions-spec : {M : Type 1} → statement M
-linkbox-conditions-spec = tie.close (tie.spec conditions-requires returns)
+linkbox-conditions-spec = tie.close
+    (tie.spec (λ c. search needs) (λ c. search needs))

@@ -5,22 +5,19 @@ use Rattle.call_setting.specs.declared.SettingTold.{SettingTold}
 use Rattle.call_setting.specs.declared.Started.{Started}
 use Rattle.state_view.specs.declared.StateArrays.{StateArrays}
 use Rattle.linkbox_state.specs.declared.NewBox.{NewBox}
+use Rattle.base_laws.proofs.Places.{at}
 use borrow.Author.Needs.{needs}
 use Rattle.linkbox_state.proofs.linkbox_new_setting.Statement.{statement}
 use Rattle.linkbox_state.proofs.linkbox_new_setting.Tie as tie
 
-joined : {m n : ℕ} {x y : StateArrays} → m ≡ n → x ≡ y → _≡_ {A = NewBox} (record { refusal = m; state = x }) (record { refusal = n; state = y })
+joined : {m n : ℕ} {x y : StateArrays} → m ≡ n → x ≡ y
+    → _≡_ {A = NewBox} (record { refusal = m; state = x }) (record { refusal = n; state = y })
 joined e f = rw (e, f)
 
-new-setting-requires : tie.Need-new-setting-requires
-new-setting-requires c κs = search needs
-
-tell-requires : tie.Need-tell-requires
-tell-requires c κs = search needs
-
 returns : tie.Need-returns
-returns c = let e = c .before .before .new-setting .ensures in
+returns c = let e = at tie.After-new-setting (search) .new-setting .ensures in
     (joined (ap (λ (t : SettingTold). t .refusal) (c .tell .ensures ∙ e .1 .0)) (ap (λ (x : Started). x .state) (e .0)), e .1 .1)
 
 pub linkbox-new-setting-spec : {M : Type 1} → statement M
-linkbox-new-setting-spec = tie.close (tie.spec new-setting-requires tell-requires returns)
+linkbox-new-setting-spec = tie.close
+    (tie.spec (search needs) (search needs) returns)

@@ -7,12 +7,6 @@ use Rattle.base_laws.proofs.Stored.{widened-less, widened-less-fits}
 use Rattle.loss_growth.proofs.less.Statement.{statement}
 use Rattle.loss_growth.proofs.less.Tie as tie
 
-cast-result : tie.Need-cast-result
-cast-result c = search needs
-
-cast-result-2 : tie.Need-cast-result-2
-cast-result-2 c = search needs
-
 sub-result : tie.Need-sub-result
 sub-result c = widened-less-fits (c .args .a) (c .args .b) (omega arith) (omega arith)
 
@@ -20,4 +14,5 @@ returns : tie.Need-returns
 returns c = toZ-ofZ (sub-result c) ∙ widened-less (c .args .a) (c .args .b) (omega arith) (omega arith)
 
 pub less-spec : {M : Type 1} → statement M
-less-spec = tie.close (tie.spec cast-result cast-result-2 sub-result returns)
+less-spec = tie.close
+    (tie.spec (search needs) (search needs) sub-result returns)

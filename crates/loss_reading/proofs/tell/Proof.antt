@@ -8,18 +8,6 @@ use Rattle.loss_reading.specs.Told.{told}
 use Rattle.loss_reading.proofs.tell.Statement.{statement}
 use Rattle.loss_reading.proofs.tell.Tie as tie
 
-enum-told : tie.Need-enum-told
-enum-told c = search needs
-
-enum-told-2 : tie.Need-enum-told-2
-enum-told-2 c = search needs
-
-enum-told-3 : tie.Need-enum-told-3
-enum-told-3 c = search needs
-
-enum-known-a : tie.Need-enum-known-a
-enum-known-a c = search needs
-
 returns : tie.Need-returns
 unfolding told
 returns c = sym (ap told (c .enum-told .given .1))
@@ -42,4 +30,4 @@ returns-4 c = let p = c .before .a .given in
 pub tell-spec : {M : Type 1} → statement M
 tell-spec =
     tie.close
-    (tie.spec enum-told enum-told-2 enum-told-3 enum-known-a returns returns-2 returns-3 returns-4)
+    (tie.spec (search needs) (search needs) (search needs) (search needs) returns returns-2 returns-3 returns-4)

@@ -3,8 +3,6 @@ use borrow.Author.Needs.{needs}
 use Rattle.loss_session.proofs.cleared.Statement.{statement}
 use Rattle.loss_session.proofs.cleared.Tie as tie
 
-returns : tie.Need-returns
-returns c = search needs
-
 pub cleared-spec : {M : Type 1} → statement M
-cleared-spec = tie.close (tie.spec returns)
+cleared-spec = tie.close
+    (tie.spec (search needs))

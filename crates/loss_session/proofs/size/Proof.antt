@@ -17,13 +17,16 @@ add-result : tie.Need-add-result
 add-result c = rw (flipped (c .before .args .x) (c .before .fits .x) (c .if1 .taken)) (omega arith)
 
 cast-result-2 : tie.Need-cast-result-2
-cast-result-2 c = (read-above (c .before .args .x) (c .before .fits .x) (c .if1 .left), rw (back (c .before .args .x) (c .before .fits .x)) (fits-natAbs tt (c .before .fits .x)))
+cast-result-2 c = (
+  read-above (c .before .args .x) (c .before .fits .x) (c .if1 .left),
+  rw (back (c .before .args .x) (c .before .fits .x))
+      (fits-natAbs tt (c .before .fits .x)),
+)
 
 returns : tie.Need-returns
-returns c = rw (flipped (c .before .args .x) (c .before .fits .x) (c .if1 .taken)) (sym (size-below (c .before .args .x) (c .before .fits .x) (c .if1 .taken)))
-
-returns-2 : tie.Need-returns-2
-returns-2 c = search needs
+returns c = rw (flipped (c .before .args .x) (c .before .fits .x) (c .if1 .taken))
+    (sym (size-below (c .before .args .x) (c .before .fits .x) (c .if1 .taken)))
 
 pub size-spec : {M : Type 1} → statement M
-size-spec = tie.close (tie.spec sub-result cast-result add-result cast-result-2 returns returns-2)
+size-spec = tie.close
+    (tie.spec sub-result cast-result add-result cast-result-2 returns (λ c. search needs))

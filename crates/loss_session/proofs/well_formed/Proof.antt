@@ -6,27 +6,13 @@ use lib.Dec.{eqb, leb}
 use lib.IntN.{natAbs}
 use mir.Syntax.{w64}
 use mir.Val.{SFits}
+use Rattle.base_laws.proofs.Places.{at}
 use borrow.Author.Needs.{needs}
 use Rattle.base_laws.proofs.Stored.{back}
 use Rattle.loss_session.specs.declared.LossSession.{LossSession}
 use Rattle.loss_session.specs.Session.{allZero, wellFormed, mostIntervals}
 use Rattle.loss_session.proofs.well_formed.Statement.{statement}
 use Rattle.loss_session.proofs.well_formed.Tie as tie
-
-all-zero-requires : tie.Need-all-zero-requires
-all-zero-requires c κs = search needs
-
-size-requires : tie.Need-size-requires
-size-requires c κs = search needs
-
-size-requires-2 : tie.Need-size-requires-2
-size-requires-2 c κs = search needs
-
-cast-most : tie.Need-cast-most
-cast-most c = search needs
-
-mul-most : tie.Need-mul-most
-mul-most c = search needs
 
 near-fits : (c : tie.Start) → SFits w64 (c .args .s .near)
 near-fits c = search needs
@@ -36,17 +22,20 @@ far-fits c = search needs
 
 -- the test, made of what the three calls answered
 joined : (s : LossSession) (n f : ℕ) (z : Bool) → n ≡ natAbs (s .near) → f ≡ natAbs (s .far) → z ≡ allZero (s .last)
-    → leb (s .kept) 1 && leb (s .intervals) mostIntervals && (eqb (s .kept) 1 || eqb (s .intervals) 0 && z) && leb n (s .intervals * 4294967295) && leb f (s .intervals * 4294967295) ≡ wellFormed s
+    → leb (s .kept) 1 && leb (s .intervals) mostIntervals && (eqb (s .kept) 1 || eqb (s .intervals) 0 && z) && leb n
+    (s .intervals * 4294967295) && leb f (s .intervals * 4294967295) ≡ wellFormed s
 unfolding wellFormed
 joined s n f z en ef ez = rw (en, ef, ez) refl
 
 returns : tie.Need-returns
-returns c = let two = c .before .before .before .before .before in
-    let one = two .before .before in
-    let zero = one .before .before in
-    let o = zero .before .before in
-    joined (o .args .s) _ _ _ (one .size .ensures ∙ ap natAbs (back (o .args .s .near) (near-fits o))) (two .size2 .ensures ∙ ap natAbs (back (o .args .s .far) (far-fits o))) (zero .all-zero .ensures)
+returns c = let two = at tie.After-size2 (search) in
+    let one = at tie.After-size (search) in
+    let zero = at tie.After-all-zero (search) in
+    let o = at tie.Start (search) in
+    joined (o .args .s) _ _ _ (one .size .ensures ∙ ap natAbs (back (o .args .s .near) (near-fits o))) (two .size2 .ensures
+    ∙ ap natAbs (back (o .args .s .far) (far-fits o))) (zero .all-zero .ensures)
 
 pub well-formed-spec : {M : Type 1} → statement M
 well-formed-spec =
-    tie.close (tie.spec all-zero-requires size-requires size-requires-2 cast-most mul-most returns)
+    tie.close
+    (tie.spec (search needs) (search needs) (search needs) (search needs) (search needs) returns)

@@ -8,6 +8,7 @@ use Rattle.message_dmr.specs.Dmr.{dmrOctets}
 use Rattle.message_dmr.proofs.Laid.{pieces, within}
 use Rattle.message_reply.proofs.Laid.{over}
 use Rattle.message_reply.proofs.Over.{cut-off, no-room, written}
+use Rattle.base_laws.proofs.Places.{at}
 use borrow.Author.Needs.{needs}
 use Rattle.message_dmr.proofs.write_dmr.Statement.{statement}
 use Rattle.message_dmr.proofs.write_dmr.Tie as tie
@@ -19,7 +20,7 @@ six c = search needs
 returns : tie.Need-returns
 unfolding dmrOctets over
 returns c =
-    let s = c .before .before .before in
+    let s = at tie.Start (search) in
     let a = s .args in
     cut-off (a .own) (now (a .request)) (six s) 46 32 (pieces (a .receive) (a .transmit)) (within (a .receive) (a .transmit))
     (now (a .into))
@@ -28,32 +29,20 @@ returns c =
 returns-2 : tie.Need-returns-2
 unfolding dmrOctets over
 returns-2 c =
-    let s = c .before .before .before .before in
+    let s = at tie.Start (search) in
     let a = s .args in
     no-room (a .own) (now (a .request)) (six s) 46 32 (pieces (a .receive) (a .transmit)) (within (a .receive) (a .transmit))
     (now (a .into))
     (c .before .if1 .left) (c .if2 .taken)
 
-write-reply-requires : tie.Need-write-reply-requires
-write-reply-requires c κs = search needs
-
-write-stamp-requires : tie.Need-write-stamp-requires
-write-stamp-requires c κs = search needs
-
-write-stamp-requires-2 : tie.Need-write-stamp-requires-2
-write-stamp-requires-2 c κs = search needs
-
-same-length : tie.Need-same-length
-same-length c = search needs
-
 returns-3 : tie.Need-returns-3
 unfolding dmrOctets over
 returns-3 c =
-    let second = c .before .before in
-    let one = second .before .before .before .before in
-    let reply = one .before .before .before .before in
-    let test = reply .before .before in
-    let s = test .before .before .before .before in
+    let second = at tie.After-write-stamp2 (search) in
+    let one = at tie.After-write-stamp (search) in
+    let reply = at tie.After-write-reply (search) in
+    let test = at tie.Else2 (search) in
+    let s = at tie.Start (search) in
     let a = s .args in
     written (a .own) (now (a .request)) (six s) 46 32 (pieces (a .receive) (a .transmit)) (within (a .receive) (a .transmit))
     (now (a .into)) (test .before .if1 .left) (test .if2 .left)
@@ -63,11 +52,4 @@ returns-3 c =
 pub write-dmr-spec : {M : Type 1} → statement M
 write-dmr-spec =
     tie.close
-    (tie.spec
-    returns
-    returns-2
-    write-reply-requires
-    write-stamp-requires
-    write-stamp-requires-2
-    same-length
-    returns-3)
+    (tie.spec returns returns-2 (search needs) (search needs) (search needs) (search needs) returns-3)

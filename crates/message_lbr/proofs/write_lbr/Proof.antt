@@ -6,6 +6,7 @@ use lib.ListN.{length}
 use Rattle.message_lbr.specs.Lbr.{lbrOctets}
 use Rattle.message_reply.proofs.Laid.{over, Within}
 use Rattle.message_reply.proofs.Over.{cut-off, no-room, written}
+use Rattle.base_laws.proofs.Places.{at}
 use borrow.Author.Needs.{needs}
 use Rattle.message_lbr.proofs.write_lbr.Statement.{statement}
 use Rattle.message_lbr.proofs.write_lbr.Tie as tie
@@ -17,29 +18,23 @@ six c = search needs
 returns : tie.Need-returns
 unfolding over Within
 returns c =
-    let s = c .before .before .before in
+    let s = at tie.Start (search) in
     let a = s .args in
     cut-off (a .own) (now (a .request)) (six s) 2 4 [] tt (now (a .into)) (c .if1 .taken)
 
 returns-2 : tie.Need-returns-2
 unfolding over Within
 returns-2 c =
-    let s = c .before .before .before .before in
+    let s = at tie.Start (search) in
     let a = s .args in
     no-room (a .own) (now (a .request)) (six s) 2 4 [] tt (now (a .into)) (c .before .if1 .left) (c .if2 .taken)
-
-write-reply-requires : tie.Need-write-reply-requires
-write-reply-requires c κs = search needs
-
-same-length : tie.Need-same-length
-same-length c = search needs
 
 returns-3 : tie.Need-returns-3
 unfolding over Within
 returns-3 c =
-    let reply = c .before .before in
-    let test = reply .before .before in
-    let s = test .before .before .before .before in
+    let reply = at tie.After-write-reply (search) in
+    let test = at tie.Else2 (search) in
+    let s = at tie.Start (search) in
     let a = s .args in
     written (a .own) (now (a .request)) (six s) 2 4 [] tt (now (a .into)) (test .before .if1 .left) (test .if2 .left)
     (reply .write-reply .ensures) refl
@@ -47,9 +42,4 @@ returns-3 c =
 pub write-lbr-spec : {M : Type 1} → statement M
 write-lbr-spec =
     tie.close
-    (tie.spec
-    returns
-    returns-2
-    write-reply-requires
-    same-length
-    returns-3)
+    (tie.spec returns returns-2 (search needs) (search needs) returns-3)

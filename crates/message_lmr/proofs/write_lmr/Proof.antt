@@ -8,6 +8,7 @@ use Rattle.message_lmr.specs.Lmr.{lmrOctets}
 use Rattle.message_lmr.proofs.Laid.{pieces, within}
 use Rattle.message_reply.proofs.Laid.{over}
 use Rattle.message_reply.proofs.Over.{cut-off, no-room, written}
+use Rattle.base_laws.proofs.Places.{at}
 use borrow.Author.Needs.{needs}
 use Rattle.message_lmr.proofs.write_lmr.Statement.{statement}
 use Rattle.message_lmr.proofs.write_lmr.Tie as tie
@@ -19,7 +20,7 @@ six c = search needs
 returns : tie.Need-returns
 unfolding lmrOctets over
 returns c =
-    let s = c .before .before .before in
+    let s = at tie.Start (search) in
     let a = s .args in
     cut-off (a .own) (now (a .request)) (six s) 42 12 (pieces (a .received) (a .sent)) (within (a .received) (a .sent)) (now (a .into))
     (c .if1 .taken)
@@ -27,31 +28,19 @@ returns c =
 returns-2 : tie.Need-returns-2
 unfolding lmrOctets over
 returns-2 c =
-    let s = c .before .before .before .before in
+    let s = at tie.Start (search) in
     let a = s .args in
     no-room (a .own) (now (a .request)) (six s) 42 12 (pieces (a .received) (a .sent)) (within (a .received) (a .sent)) (now (a .into))
     (c .before .if1 .left) (c .if2 .taken)
 
-write-reply-requires : tie.Need-write-reply-requires
-write-reply-requires c κs = search needs
-
-write-big-requires : tie.Need-write-big-requires
-write-big-requires c κs = search needs
-
-write-big-requires-2 : tie.Need-write-big-requires-2
-write-big-requires-2 c κs = search needs
-
-same-length : tie.Need-same-length
-same-length c = search needs
-
 returns-3 : tie.Need-returns-3
 unfolding lmrOctets over
 returns-3 c =
-    let second = c .before .before in
-    let one = second .before .before .before .before in
-    let reply = one .before .before .before .before in
-    let test = reply .before .before in
-    let s = test .before .before .before .before in
+    let second = at tie.After-write-big2 (search) in
+    let one = at tie.After-write-big (search) in
+    let reply = at tie.After-write-reply (search) in
+    let test = at tie.Else2 (search) in
+    let s = at tie.Start (search) in
     let a = s .args in
     written (a .own) (now (a .request)) (six s) 42 12 (pieces (a .received) (a .sent)) (within (a .received) (a .sent)) (now (a .into))
     (test .before .if1 .left) (test .if2 .left)
@@ -61,11 +50,4 @@ returns-3 c =
 pub write-lmr-spec : {M : Type 1} → statement M
 write-lmr-spec =
     tie.close
-    (tie.spec
-    returns
-    returns-2
-    write-reply-requires
-    write-big-requires
-    write-big-requires-2
-    same-length
-    returns-3)
+    (tie.spec returns returns-2 (search needs) (search needs) (search needs) (search needs) returns-3)

@@ -5,6 +5,7 @@ use denote.Ref.{now}
 use lib.ListN.{length, length-set}
 use Rattle.message_reply.proofs.Laid.{reply-laid}
 use Rattle.message_reply.proofs.Room.{no-opcode, no-room, into-room}
+use Rattle.base_laws.proofs.Places.{at}
 use borrow.Author.Needs.{needs}
 use Rattle.message_reply.proofs.write_reply.Statement.{statement}
 use Rattle.message_reply.proofs.write_reply.Tie as tie
@@ -13,49 +14,25 @@ use Rattle.message_reply.proofs.write_reply.Tie as tie
 six : (c : tie.Start) → length (c .args .t3) ≡ 6
 six c = search needs
 
-copy-octets-requires : tie.Need-copy-octets-requires
-copy-octets-requires c κs = search needs
-
-sub-copy-octets : tie.Need-sub-copy-octets
-sub-copy-octets c = search needs
-
-part-copy-octets-start : tie.Need-part-copy-octets-start
-part-copy-octets-start c = search needs
-
-part-copy-octets-end : tie.Need-part-copy-octets-end
-part-copy-octets-end c = search needs
-
-copy-octets-requires-2 : tie.Need-copy-octets-requires-2
-copy-octets-requires-2 c κs = search needs
-
-slice-aggregate-copy-octets : tie.Need-slice-aggregate-copy-octets
-slice-aggregate-copy-octets c = search needs
-
-copy-octets-requires-3 : tie.Need-copy-octets-requires-3
-copy-octets-requires-3 c κs = search needs
-
-slice-write-into : tie.Need-slice-write-into
-slice-write-into c = search needs
-
 same-length : tie.Need-same-length
 same-length c = simp length-set (omega arith)
 
 returns : tie.Need-returns
 returns c =
-    let a = c .before .before .before .args in
+    let a = at tie.Start (search) .args in
     no-opcode (a .t3) (a .opcode) (now (a .request)) (now (a .into)) (c .if1 .taken)
 
 returns-2 : tie.Need-returns-2
 returns-2 c =
-    let a = c .before .before .before .before .args in
+    let a = at tie.Start (search) .args in
     no-room (a .t3) (a .opcode) (now (a .request)) (now (a .into)) (c .before .if1 .left) (c .if2 .taken)
 
 returns-3 : tie.Need-returns-3
-returns-3 c = let source = c .before .before in
-    let destination = source .before .before .before .before .before in
-    let whole = destination .before .before .before .before .before in
-    let test = whole .before .before in
-    let s = test .before .before .before .before in
+returns-3 c = let source = at tie.After-copy-octets3 (search) in
+    let destination = at tie.After-copy-octets2 (search) in
+    let whole = at tie.After-copy-octets (search) in
+    let test = at tie.Else2 (search) in
+    let s = at tie.Start (search) in
     let a = s .args in
     reply-laid (a .t3) (now (a .request)) (six s) (a .opcode) (omega arith) (now (a .into)) (omega arith)
     (whole .copy-octets .ensures)
@@ -66,16 +43,5 @@ returns-3 c = let source = c .before .before in
 pub write-reply-spec : {M : Type 1} → statement M
 write-reply-spec =
     tie.close
-    (tie.spec
-    returns
-    returns-2
-    copy-octets-requires
-    sub-copy-octets
-    part-copy-octets-start
-    part-copy-octets-end
-    copy-octets-requires-2
-    slice-aggregate-copy-octets
-    copy-octets-requires-3
-    slice-write-into
-    same-length
-    returns-3)
+    (tie.spec returns returns-2 (search needs) (search needs) (search needs) (search needs) (search needs) (search needs) (search needs)
+    (search needs) same-length returns-3)

@@ -4,90 +4,10 @@ use mir.Syntax.{w64}
 use mir.Val.{SFits}
 use Rattle.base_laws.proofs.Stored.{back}
 use Rattle.receive_answer.specs.Told.{dropped, told}
+use Rattle.base_laws.proofs.Places.{at}
 use borrow.Author.Needs.{needs}
 use Rattle.receive_answer.proofs.tell.Statement.{statement}
 use Rattle.receive_answer.proofs.tell.Tie as tie
-
-enum-told : tie.Need-enum-told
-enum-told c = search needs
-
-plain-requires : tie.Need-plain-requires
-plain-requires c κs = search needs
-
-enum-told-2 : tie.Need-enum-told-2
-enum-told-2 c = search needs
-
-plain-requires-2 : tie.Need-plain-requires-2
-plain-requires-2 c κs = search needs
-
-enum-told-3 : tie.Need-enum-told-3
-enum-told-3 c = search needs
-
-plain-requires-3 : tie.Need-plain-requires-3
-plain-requires-3 c κs = search needs
-
-enum-told-4 : tie.Need-enum-told-4
-enum-told-4 c = search needs
-
-plain-requires-4 : tie.Need-plain-requires-4
-plain-requires-4 c κs = search needs
-
-enum-told-5 : tie.Need-enum-told-5
-enum-told-5 c = search needs
-
-plain-requires-5 : tie.Need-plain-requires-5
-plain-requires-5 c κs = search needs
-
-enum-known-answer : tie.Need-enum-known-answer
-enum-known-answer c = search needs
-
-number-of-requires : tie.Need-number-of-requires
-number-of-requires c κs = search needs
-
-plain-requires-6 : tie.Need-plain-requires-6
-plain-requires-6 c κs = search needs
-
-enum-told-6 : tie.Need-enum-told-6
-enum-told-6 c = search needs
-
-plain-requires-7 : tie.Need-plain-requires-7
-plain-requires-7 c κs = search needs
-
-enum-told-7 : tie.Need-enum-told-7
-enum-told-7 c = search needs
-
-plain-requires-8 : tie.Need-plain-requires-8
-plain-requires-8 c κs = search needs
-
-enum-known-answer-2 : tie.Need-enum-known-answer-2
-enum-known-answer-2 c = search needs
-
-plain-requires-9 : tie.Need-plain-requires-9
-plain-requires-9 c κs = search needs
-
-enum-told-8 : tie.Need-enum-told-8
-enum-told-8 c = search needs
-
-plain-requires-10 : tie.Need-plain-requires-10
-plain-requires-10 c κs = search needs
-
-enum-known-answer-3 : tie.Need-enum-known-answer-3
-enum-known-answer-3 c = search needs
-
-lost-requires : tie.Need-lost-requires
-lost-requires c κs = search needs
-
-enum-known-answer-4 : tie.Need-enum-known-answer-4
-enum-known-answer-4 c = search needs
-
-delayed-requires : tie.Need-delayed-requires
-delayed-requires c κs = search needs
-
-enum-known-answer-5 : tie.Need-enum-known-answer-5
-enum-known-answer-5 c = search needs
-
-delayed-requires-2 : tie.Need-delayed-requires-2
-delayed-requires-2 c κs = search needs
 
 returns : tie.Need-returns
 unfolding told
@@ -111,7 +31,8 @@ returns-5 c = c .plain5 .ensures ∙ sym (ap told (c .before .enum-told5 .given 
 
 returns-6 : tie.Need-returns-6
 unfolding told
-returns-6 c = c .plain6 .ensures ∙ ap dropped (c .before .number-of .ensures) ∙ sym (ap told (c .before .before .before .answer .given .1))
+returns-6 c = c .plain6 .ensures ∙ ap dropped (c .before .number-of .ensures)
+    ∙ sym (ap told (at tie.After-answer (search) .answer .given .1))
 
 returns-7 : tie.Need-returns-7
 unfolding told
@@ -123,7 +44,7 @@ returns-8 c = c .plain8 .ensures ∙ sym (ap told (c .before .enum-told7 .given 
 
 returns-9 : tie.Need-returns-9
 unfolding told
-returns-9 c = c .plain9 .ensures ∙ sym (ap told (c .before .before .answer2 .given .1))
+returns-9 c = c .plain9 .ensures ∙ sym (ap told (at tie.After-answer2 (search) .answer2 .given .1))
 
 returns-10 : tie.Need-returns-10
 unfolding told
@@ -131,20 +52,20 @@ returns-10 c = c .plain10 .ensures ∙ sym (ap told (c .before .enum-told8 .give
 
 returns-11 : tie.Need-returns-11
 unfolding told
-returns-11 c = let p = c .before .before .answer3 .given in
+returns-11 c = let p = at tie.After-answer3 (search) .answer3 .given in
     let z0 : SFits w64 (p .0 .0) = search needs in
     let z1 : SFits w64 (p .0 .1 .0) = search needs in
     rw (c .lost .ensures, back (p .0 .0) z0, back (p .0 .1 .0) z1) (sym (ap told (p .1)))
 
 returns-12 : tie.Need-returns-12
 unfolding told
-returns-12 c = let p = c .before .before .answer4 .given in
+returns-12 c = let p = at tie.After-answer4 (search) .answer4 .given in
     let z0 : SFits w64 (p .0 .0) = search needs in
     rw (c .delayed .ensures, back (p .0 .0) z0) (sym (ap told (p .1)))
 
 returns-13 : tie.Need-returns-13
 unfolding told
-returns-13 c = let p = c .before .before .answer5 .given in
+returns-13 c = let p = at tie.After-answer5 (search) .answer5 .given in
     let z0 : SFits w64 (p .0 .0) = search needs in
     let z1 : SFits w64 (p .0 .1 .0) = search needs in
     let z2 : SFits w64 (p .0 .1 .1 .0) = search needs in
@@ -153,44 +74,8 @@ returns-13 c = let p = c .before .before .answer5 .given in
 pub tell-spec : {M : Type 1} → statement M
 tell-spec =
     tie.close
-    (tie.spec
-    enum-told
-    plain-requires
-    enum-told-2
-    plain-requires-2
-    enum-told-3
-    plain-requires-3
-    enum-told-4
-    plain-requires-4
-    enum-told-5
-    plain-requires-5
-    enum-known-answer
-    number-of-requires
-    plain-requires-6
-    enum-told-6
-    plain-requires-7
-    enum-told-7
-    plain-requires-8
-    enum-known-answer-2
-    plain-requires-9
-    enum-told-8
-    plain-requires-10
-    enum-known-answer-3
-    lost-requires
-    enum-known-answer-4
-    delayed-requires
-    enum-known-answer-5
-    delayed-requires-2
-    returns
-    returns-2
-    returns-3
-    returns-4
-    returns-5
-    returns-6
-    returns-7
-    returns-8
-    returns-9
-    returns-10
-    returns-11
-    returns-12
+    (tie.spec (search needs) (search needs) (search needs) (search needs) (search needs) (search needs) (search needs) (search needs)
+    (search needs) (search needs) (search needs) (search needs) (search needs) (search needs) (search needs) (search needs) (search needs)
+    (search needs) (search needs) (search needs) (search needs) (search needs) (search needs) (search needs) (search needs) (search needs)
+    (search needs) returns returns-2 returns-3 returns-4 returns-5 returns-6 returns-7 returns-8 returns-9 returns-10 returns-11 returns-12
     returns-13)

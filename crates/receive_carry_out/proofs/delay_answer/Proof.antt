@@ -8,18 +8,6 @@ use borrow.Author.Needs.{needs}
 use Rattle.receive_carry_out.proofs.delay_answer.Statement.{statement}
 use Rattle.receive_carry_out.proofs.delay_answer.Tie as tie
 
-enum-told : tie.Need-enum-told
-enum-told c = search needs
-
-enum-told-2 : tie.Need-enum-told-2
-enum-told-2 c = search needs
-
-enum-known-answer : tie.Need-enum-known-answer
-enum-known-answer c = search needs
-
-enum-known-answer-2 : tie.Need-enum-known-answer-2
-enum-known-answer-2 c = search needs
-
 returns : tie.Need-returns
 unfolding delayAnswer
 returns c = sym (ap delayAnswer (c .enum-told .given .1))
@@ -45,12 +33,4 @@ returns-4 c = let p = c .before .answer2 .given in
 pub delay-answer-spec : {M : Type 1} → statement M
 delay-answer-spec =
     tie.close
-    (tie.spec
-    enum-told
-    enum-told-2
-    enum-known-answer
-    enum-known-answer-2
-    returns
-    returns-2
-    returns-3
-    returns-4)
+    (tie.spec (search needs) (search needs) (search needs) (search needs) returns returns-2 returns-3 returns-4)

@@ -8,18 +8,6 @@ use borrow.Author.Needs.{needs}
 use Rattle.receive_change.proofs.answer_of.Statement.{statement}
 use Rattle.receive_change.proofs.answer_of.Tie as tie
 
-enum-told : tie.Need-enum-told
-enum-told c = search needs
-
-enum-told-2 : tie.Need-enum-told-2
-enum-told-2 c = search needs
-
-enum-told-3 : tie.Need-enum-told-3
-enum-told-3 c = search needs
-
-enum-known-answer : tie.Need-enum-known-answer
-enum-known-answer c = search needs
-
 returns : tie.Need-returns
 unfolding answerOf
 returns c = sym (ap answerOf (c .enum-told .given .1))
@@ -42,12 +30,4 @@ returns-4 c = let p = c .before .answer .given in
 pub answer-of-spec : {M : Type 1} → statement M
 answer-of-spec =
     tie.close
-    (tie.spec
-    enum-told
-    enum-told-2
-    enum-told-3
-    enum-known-answer
-    returns
-    returns-2
-    returns-3
-    returns-4)
+    (tie.spec (search needs) (search needs) (search needs) (search needs) returns returns-2 returns-3 returns-4)

@@ -3,11 +3,6 @@ use borrow.Author.Needs.{needs}
 use Rattle.receive_change.proofs.one_more.Statement.{statement}
 use Rattle.receive_change.proofs.one_more.Tie as tie
 
-wrapping-add-u32-requires : tie.Need-wrapping-add-u32-requires
-wrapping-add-u32-requires c κs = search needs
-
-returns : tie.Need-returns
-returns c = search needs
-
 pub one-more-spec : {M : Type 1} → statement M
-one-more-spec = tie.close (tie.spec wrapping-add-u32-requires returns)
+one-more-spec = tie.close
+    (tie.spec (search needs) (search needs))

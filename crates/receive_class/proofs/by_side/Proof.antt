@@ -5,12 +5,6 @@ use borrow.Author.Needs.{needs}
 use Rattle.receive_class.proofs.by_side.Statement.{statement}
 use Rattle.receive_class.proofs.by_side.Tie as tie
 
-enum-told : tie.Need-enum-told
-enum-told c = search needs
-
-enum-told-2 : tie.Need-enum-told-2
-enum-told-2 c = search needs
-
 returns : tie.Need-returns
 unfolding bySide
 returns c = rw (c .enum-told .given .1)
@@ -24,4 +18,5 @@ unfolding bySide
 returns-3 c = rw (c .before .enum-told2 .given .1, le-ltb _ _ (c .if1 .left))
 
 pub by-side-spec : {M : Type 1} → statement M
-by-side-spec = tie.close (tie.spec enum-told enum-told-2 returns returns-2 returns-3)
+by-side-spec = tie.close
+    (tie.spec (search needs) (search needs) returns returns-2 returns-3)

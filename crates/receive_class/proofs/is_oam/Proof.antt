@@ -10,11 +10,9 @@ use Rattle.receive_class.proofs.is_oam.Tie as tie
 returns : tie.Need-returns
 returns c = rw (lt-leb _ _ (c .if1 .taken))
 
-read-big-requires : tie.Need-read-big-requires
-read-big-requires c κs = search needs
-
 returns-2 : tie.Need-returns-2
 returns-2 c = rw (le-leb _ _ (c .before .if1 .left)) (ap (λ (x : ℕ). eqb x 0x8902) (c .read-big .ensures .is))
 
 pub is-oam-spec : {M : Type 1} → statement M
-is-oam-spec = tie.close (tie.spec returns read-big-requires returns-2)
+is-oam-spec = tie.close
+    (tie.spec returns (search needs) returns-2)

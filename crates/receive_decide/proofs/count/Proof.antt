@@ -5,12 +5,6 @@ use borrow.Author.Needs.{needs}
 use Rattle.receive_decide.proofs.count.Statement.{statement}
 use Rattle.receive_decide.proofs.count.Tie as tie
 
-enum-told : tie.Need-enum-told
-enum-told c = search needs
-
-enum-told-2 : tie.Need-enum-told-2
-enum-told-2 c = search needs
-
 returns : tie.Need-returns
 unfolding countOf
 returns c = sym (ap countOf (c .enum-told .given .1))
@@ -20,4 +14,5 @@ unfolding countOf
 returns-2 c = sym (ap countOf (c .enum-told2 .given .1))
 
 pub count-spec : {M : Type 1} → statement M
-count-spec = tie.close (tie.spec enum-told enum-told-2 returns returns-2)
+count-spec = tie.close
+    (tie.spec (search needs) (search needs) returns returns-2)

@@ -14,68 +14,39 @@ use Rattle.frame_head.specs.Addresses.{inHead}
 use Rattle.state_settings.specs.Settings.{nameOctets, addressOctets, losspeerFrom, ownNamed, losspeerNamed}
 use Rattle.receive_for_us.specs.Ours.{forUs}
 use Rattle.receive_decide.specs.Decide.{isOurs}
+use Rattle.base_laws.proofs.Places.{at}
 use borrow.Author.Needs.{needs}
 use Rattle.receive_decide.proofs.for_us.Statement.{statement}
 use Rattle.receive_decide.proofs.for_us.Tie as tie
 
 -- what was found is what the definition looks at
-ours-is : (names f p to from : List ℕ) (l : ℕ) → p ≡ pduOf f → to ≡ inHead (destinationOf f) f → from ≡ inHead (sourceOf f) f → l ≡ levelOf (pduOf f) → 14 ≤ length f
+ours-is : (names f p to from : List ℕ) (l : ℕ) → p ≡ pduOf f → to ≡ inHead (destinationOf f) f → from ≡ inHead (sourceOf f) f
+    → l ≡ levelOf (pduOf f) → 14 ≤ length f
     → forUs (take addressOctets names) (take addressOctets (drop losspeerFrom names)) (opcodeOf p) l to from
     ≡ isOurs (ownNamed names) (losspeerNamed names) f
 unfolding part
 ours-is names f p to from l e h k n long = rw (e, h, k, n, le-ltb (length f) 14 long)
 
-pdu-of-requires : tie.Need-pdu-of-requires
-pdu-of-requires c κs = search needs
-
-destination-requires : tie.Need-destination-requires
-destination-requires c κs = search needs
-
-source-requires : tie.Need-source-requires
-source-requires c κs = search needs
-
 slice-aggregate-is-for-us : tie.Need-slice-aggregate-is-for-us
-slice-aggregate-is-for-us c = let f = c .before .before .before .before .before .before .args .names .now in
+slice-aggregate-is-for-us c = let f = at tie.Start (search) .args .names .now in
     let h : length f ≡ nameOctets = search needs in
     sym (length-take-le addressOctets f (omega arith))
 
-sub-is-for-us : tie.Need-sub-is-for-us
-sub-is-for-us c = search needs
-
-part-is-for-us-start : tie.Need-part-is-for-us-start
-part-is-for-us-start c = search needs
-
-part-is-for-us-end : tie.Need-part-is-for-us-end
-part-is-for-us-end c = search needs
-
 shared-slice-read-is-for-us : tie.Need-shared-slice-read-is-for-us
-shared-slice-read-is-for-us c = let f = now (c .before .before .before .before .before .before .before .before .args .frame) in
-    let p = c .before .before .before .before .before .pdu-of .ensures .0 in
-    let h : 4 ≤ length (now (c .before .before .before .before .before .pdu-of .result)) = rw p (rw (length-drop 14 f) (omega arith)) in
+shared-slice-read-is-for-us c = let f = now (at tie.Start (search) .args .frame) in
+    let p = at tie.After-pdu-of (search) .pdu-of .ensures .0 in
+    let h : 4 ≤ length (now (at tie.After-pdu-of (search) .pdu-of .result)) = rw p (rw (length-drop 14 f) (omega arith)) in
     omega (arith, h)
 
-level-requires : tie.Need-level-requires
-level-requires c κs = search needs
-
-is-for-us-requires : tie.Need-is-for-us-requires
-is-for-us-requires c κs = search needs
-
 returns : tie.Need-returns
-returns c = let a = c .before .before .before .before .before .before .before .before .before .before .args in
-    c .is-for-us .ensures ∙ ours-is (now (a .names)) (now (a .frame)) _ _ _ _ (c .before .before .before .before .before .before .before .pdu-of .ensures .0) (c .before .before .before .before .before .before .destination .ensures .0) (c .before .before .before .before .before .source .ensures .0) (c .before .level .ensures) (omega arith)
+returns c = let a = at tie.Start (search) .args in
+    c .is-for-us .ensures
+    ∙ ours-is (now (a .names)) (now (a .frame)) _ _ _ _ (at tie.After-pdu-of (search) .pdu-of .ensures .0)
+    (at tie.After-destination (search) .destination .ensures .0) (at tie.After-source (search) .source .ensures .0)
+    (c .before .level .ensures) (omega arith)
 
 pub for-us-spec : {M : Type 1} → statement M
 for-us-spec =
     tie.close
-    (tie.spec
-    pdu-of-requires
-    destination-requires
-    source-requires
-    slice-aggregate-is-for-us
-    sub-is-for-us
-    part-is-for-us-start
-    part-is-for-us-end
-    shared-slice-read-is-for-us
-    level-requires
-    is-for-us-requires
-    returns)
+    (tie.spec (search needs) (search needs) (search needs) slice-aggregate-is-for-us (search needs) (search needs) (search needs)
+    shared-slice-read-is-for-us (search needs) (search needs) returns)

@@ -10,18 +10,6 @@ use Rattle.receive_delay.proofs.Laws.{furthest}
 use Rattle.receive_delay.proofs.difference.Statement.{statement}
 use Rattle.receive_delay.proofs.difference.Tie as tie
 
-widened-requires : tie.Need-widened-requires
-widened-requires c κs = search needs
-
-cast-result : tie.Need-cast-result
-cast-result c = search needs
-
-widened-requires-2 : tie.Need-widened-requires-2
-widened-requires-2 c κs = search needs
-
-cast-result-2 : tie.Need-cast-result-2
-cast-result-2 c = search needs
-
 sub-result : tie.Need-sub-result
 sub-result c = widened-less-fits (c .before .widened .result) (c .widened2 .result) (omega arith) (omega arith)
 
@@ -34,4 +22,4 @@ returns c = let to = c .before .widened in
 pub difference-spec : {M : Type 1} → statement M
 difference-spec =
     tie.close
-    (tie.spec widened-requires cast-result widened-requires-2 cast-result-2 sub-result returns)
+    (tie.spec (search needs) (search needs) (search needs) (search needs) sub-result returns)

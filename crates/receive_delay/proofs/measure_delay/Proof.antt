@@ -6,6 +6,7 @@ use Prim.Native.Nat.{_≤_}
 use lib.IntN.{ℤ, natAbs, _-ℤ_}
 use mir.Syntax.{w64}
 use mir.Val.{SFits}
+use Rattle.base_laws.proofs.Places.{at}
 use borrow.Author.Needs.{needs}
 use borrow.Author.Tests.{not-true, not-false}
 use Rattle.base_laws.proofs.Stored.{back, fits-size}
@@ -21,7 +22,8 @@ use Rattle.receive_delay.proofs.measure_delay.Statement.{statement}
 use Rattle.receive_delay.proofs.measure_delay.Tie as tie
 
 -- an answer that is the definition's tells the paper's numbers
-kept : (txf rxf txb here : Stamp) (a : DelayAnswer) → a ≡ delaysOf txf rxf txb here → (a ≡ delaysOf txf rxf txb here) × (told a ≡ numbersOf txf rxf txb here)
+kept : (txf rxf txb here : Stamp) (a : DelayAnswer) → a ≡ delaysOf txf rxf txb here → (a ≡ delaysOf txf rxf txb here)
+    × (told a ≡ numbersOf txf rxf txb here)
 kept txf rxf txb here a e = (e, ap told e ∙ told-numbers txf rxf txb here)
 
 -- a difference as the definition has it is as small as the code's
@@ -31,7 +33,9 @@ bound h = rw (h .0) at (h .1)
 all-ways : {a b c d e f : ℤ} → a ≡ b → c ≡ d → e ≡ f → AllWays a c e ≡ AllWays b d f
 all-ways p q r = rw (p, q, r)
 
-used : (c : tie.Else1) → usable (c .before .before .args .txf) (c .before .before .args .rxf) (c .before .before .args .txb) (c .before .before .args .here) ≡ true
+used : (c : tie.Else1)
+    → usable (at tie.Start (search) .args .txf) (at tie.Start (search) .args .rxf) (at tie.Start (search) .args .txb)
+    (at tie.Start (search) .args .here) ≡ true
 used c = sym (c .before .stamps-good .ensures) ∙ not-false _ (c .if1 .left)
 
 all-fits : (c : tie.After-difference) → SFits w64 (c .difference .result)
@@ -49,63 +53,40 @@ far-fits c = search needs
 near-fits : (c : tie.After-difference4) → SFits w64 (c .difference4 .result)
 near-fits c = search needs
 
-stamps-good-requires : tie.Need-stamps-good-requires
-stamps-good-requires c κs = search needs
-
 returns : tie.Need-returns
 returns c = kept _ _ _ _ _ (sym (delays-bad _ _ _ _ (sym (c .before .stamps-good .ensures) ∙ not-true _ (c .if1 .taken))))
 
-difference-requires : tie.Need-difference-requires
-difference-requires c κs = search needs
-
-pair-requires : tie.Need-pair-requires
-pair-requires c κs = search needs
-
 returns-2 : tie.Need-returns-2
-returns-2 c = let d = c .before .before in
+returns-2 c = let d = at tie.After-difference (search) in
     let e = back (d .difference .result) (all-fits d) ∙ d .difference .ensures .0 in
     kept _ _ _ _ _
-    (ap TwoWay e ∙ sym (delays-two _ _ _ _ (used (d .before)) (bound (d .difference .ensures)) (sym (c .before .pair .ensures) ∙ not-true _ (c .if2 .taken))))
-
-difference-requires-2 : tie.Need-difference-requires-2
-difference-requires-2 c κs = search needs
+    (ap TwoWay e ∙ sym (delays-two _ _ _ _ (used (d .before)) (bound (d .difference .ensures)) (sym (c .before .pair .ensures)
+    ∙ not-true _ (c .if2 .taken))))
 
 less-requires : tie.Need-less-requires
-less-requires c κs = let d = c .before .before .before in
+less-requires c κs = let d = at tie.After-difference (search) in
     rw (back (d .difference .result) (all-fits d), back (c .difference2 .result) (stay-fits c))
-    (fits-size (d .difference .result -ℤ c .difference2 .result) (stay-size (d .difference .result) (c .difference2 .result) (d .difference .ensures .1) (c .difference2 .ensures .1)))
-
-difference-requires-3 : tie.Need-difference-requires-3
-difference-requires-3 c κs = search needs
-
-difference-requires-4 : tie.Need-difference-requires-4
-difference-requires-4 c κs = search needs
+    (fits-size (d .difference .result -ℤ c .difference2 .result)
+    (stay-size (d .difference .result) (c .difference2 .result) (d .difference .ensures .1) (c .difference2 .ensures .1)))
 
 returns-3 : tie.Need-returns-3
-returns-3 c = let l = c .before .before in
+returns-3 c = let l = at tie.After-less (search) in
     let s = l .before in
-    let d = s .before .before .before in
+    let d = at tie.After-difference (search) in
     let two = back (l .less .result) (two-fits l)
     ∙ l .less .ensures
-    ∙ ap₂ (λ (x y : ℤ). x -ℤ y) (back (d .difference .result) (all-fits d) ∙ d .difference .ensures .0) (back (s .difference2 .result) (stay-fits s) ∙ s .difference2 .ensures .0) in
+    ∙ ap₂ (λ (x y : ℤ). x -ℤ y) (back (d .difference .result) (all-fits d)
+    ∙ d .difference .ensures .0) (back (s .difference2 .result) (stay-fits s) ∙ s .difference2 .ensures .0) in
     let far = back (c .before .difference3 .result) (far-fits (c .before)) ∙ c .before .difference3 .ensures .0 in
     let near = back (c .difference4 .result) (near-fits c) ∙ c .difference4 .ensures .0 in
     kept _ _ _ _ _
     (all-ways two far near
-    ∙ sym (delays-all _ _ _ _ (used (d .before)) (bound (d .difference .ensures)) (sym (s .before .before .pair .ensures) ∙ not-false _ (s .before .if2 .left))
+    ∙ sym (delays-all _ _ _ _ (used (d .before)) (bound (d .difference .ensures)) (sym (at tie.After-pair (search) .pair .ensures)
+    ∙ not-false _ (s .before .if2 .left))
     (bound (s .difference2 .ensures)) (bound (c .before .difference3 .ensures)) (bound (c .difference4 .ensures))))
 
 pub measure-delay-spec : {M : Type 1} → statement M
 measure-delay-spec =
     tie.close
-    (tie.spec
-    stamps-good-requires
-    returns
-    difference-requires
-    pair-requires
-    returns-2
-    difference-requires-2
-    less-requires
-    difference-requires-3
-    difference-requires-4
+    (tie.spec (search needs) returns (search needs) (search needs) returns-2 (search needs) less-requires (search needs) (search needs)
     returns-3)

@@ -3,14 +3,9 @@ use borrow.Author.Needs.{needs}
 use Rattle.receive_for_us.proofs.good_destination.Statement.{statement}
 use Rattle.receive_for_us.proofs.good_destination.Tie as tie
 
-same-octets-requires : tie.Need-same-octets-requires
-same-octets-requires c κs = search needs
-
-is-multicast-requires : tie.Need-is-multicast-requires
-is-multicast-requires c κs = search needs
-
 returns : tie.Need-returns
 returns c = rw (c .before .same-octets .ensures, c .is-multicast .ensures)
 
 pub good-destination-spec : {M : Type 1} → statement M
-good-destination-spec = tie.close (tie.spec same-octets-requires is-multicast-requires returns)
+good-destination-spec = tie.close
+    (tie.spec (search needs) (search needs) returns)

@@ -18,11 +18,6 @@ none (x ∷ l) h = absurd (omega arith)
 returns : tie.Need-returns
 returns c = sym (none (now (c .before .args .address)) (c .if1 .taken))
 
-shared-slice-read-result : tie.Need-shared-slice-read-result
-shared-slice-read-result c = search needs
-
-returns-2 : tie.Need-returns-2
-returns-2 c = search needs
-
 pub has-group-bit-spec : {M : Type 1} → statement M
-has-group-bit-spec = tie.close (tie.spec returns shared-slice-read-result returns-2)
+has-group-bit-spec = tie.close
+    (tie.spec returns (search needs) (search needs))

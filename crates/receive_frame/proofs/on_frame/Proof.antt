@@ -19,6 +19,7 @@ use Rattle.receive_frame.specs.Frame.{frameOf}
 use Rattle.receive_frame.specs.Numbers.{numbersOf}
 use Rattle.receive_frame.proofs.Numbers.{agree}
 use Rattle.receive_frame.proofs.Stages.{outside, refused-2, refused-1, refused-6, heeded}
+use Rattle.base_laws.proofs.Places.{at}
 use borrow.Author.Needs.{needs}
 use Rattle.receive_frame.proofs.on_frame.Statement.{statement}
 use Rattle.receive_frame.proofs.on_frame.Tie as tie
@@ -26,91 +27,70 @@ use Rattle.receive_answer.specs.declared.FrameAnswer.{FrameAnswer}
 
 -- the definition's outcome, and what it is told
 module _ (s : State) (side : Side) (f : List ℕ) (receive transmit : Stamp) (buffer : List ℕ) where
-  ends : {x : Ended State FrameAnswer} {words : List ℕ} {totals : List ℤ} → x ≡ frameOf s side f receive transmit buffer → Whole words totals → Wire receive → Wire transmit
+  ends : {x : Ended State FrameAnswer} {words : List ℕ} {totals : List ℤ} → x ≡ frameOf s side f receive transmit buffer
+      → Whole words totals → Wire receive → Wire transmit
       → (x ≡ frameOf s side f receive transmit buffer)
       × ((told (x .answer) ≡ numbersOf s side f receive transmit buffer) × (Whole words totals × (Wire receive × Wire transmit)))
   ends e w v t = (e, (ap (λ (y : Ended State FrameAnswer). told (y .answer)) e ∙ agree s side f receive transmit buffer, (w, (v, t))))
 
-is-well-formed-requires : tie.Need-is-well-formed-requires
-is-well-formed-requires c κs = search needs
+-- a stamp that came as a value is as wide as its words
+wired : (c : tie.Start) → Wire (c .args .receive) × Wire (c .args .transmit)
+wired c = let g = c .good .1 .1 .1 .1 .1 .1 .1 .1 .1 in (
+  record { seconds = g .0 .1 .1 .0 .1; nanoseconds = g .0 .1 .1 .1 .0 .1 },
+  record { seconds = g .1 .0 .1 .1 .0 .1; nanoseconds = g .1 .0 .1 .1 .1 .0 .1 },
+)
 
 returns : tie.Need-returns
-returns c = let a = c .before .before .before .before .before .before .before .before .before .before .before .before .args in
+returns c = let a = at tie.Start (search) .args in
     let s = viewOf (now (a .set)) (now (a .names)) (now (a .ids)) (now (a .timers)) (now (a .rdi)) (now (a .run)) (now (a .totals)) in
     let f = now (a .frame) in
     let o = now (a .out) in
-    let w : length (now (a .run)) ≡ runWords = search needs in
-    let z : length (now (a .totals)) ≡ 2 = search needs in
     let e = refused-2 s (a .side) f (a .receive) (a .transmit) o (sym (c .before .is-well-formed .ensures) ∙ not-true _ (c .if1 .taken)) in
-    let g = c .before .before .before .before .before .before .before .before .before .before .before .before .good .1 .1 .1 .1 .1 .1 .1 .1 .1 in
-    let v : Wire (a .receive) = record { seconds = g .0 .1 .1 .0 .1; nanoseconds = g .0 .1 .1 .1 .0 .1 } in
-    let x : Wire (a .transmit) = record { seconds = g .1 .0 .1 .1 .0 .1; nanoseconds = g .1 .0 .1 .1 .1 .0 .1 } in
-    ends s (a .side) f (a .receive) (a .transmit) o (sym e) (record { words = w; both = z }) v x
+    let w = wired (search) in
+    ends s (a .side) f (a .receive) (a .transmit) o (sym e) (record { words = search needs; both = search needs }) (w .0) (w .1)
 
 returns-2 : tie.Need-returns-2
-returns-2 c = let a = c .before .before .before .before .before .before .before .before .before .before .before .before .before .args in
+returns-2 c = let a = at tie.Start (search) .args in
     let s = viewOf (now (a .set)) (now (a .names)) (now (a .ids)) (now (a .timers)) (now (a .rdi)) (now (a .run)) (now (a .totals)) in
     let f = now (a .frame) in
     let o = now (a .out) in
-    let w : length (now (a .run)) ≡ runWords = search needs in
-    let z : length (now (a .totals)) ≡ 2 = search needs in
-    let e = refused-1 s (a .side) f (a .receive) (a .transmit) o (sym (c .before .before .is-well-formed .ensures) ∙ not-false _ (c .before .if1 .left)) (not-true _ (sym (outside f) ∙ c .if2 .taken)) in
-    let g = c .before .before .before .before .before .before .before .before .before .before .before .before .before .good .1 .1 .1 .1 .1 .1 .1 .1 .1 in
-    let v : Wire (a .receive) = record { seconds = g .0 .1 .1 .0 .1; nanoseconds = g .0 .1 .1 .1 .0 .1 } in
-    let x : Wire (a .transmit) = record { seconds = g .1 .0 .1 .1 .0 .1; nanoseconds = g .1 .0 .1 .1 .1 .0 .1 } in
-    ends s (a .side) f (a .receive) (a .transmit) o (sym e) (record { words = w; both = z }) v x
-
-good-stamp-requires : tie.Need-good-stamp-requires
-good-stamp-requires c κs = search needs
-
-good-stamp-requires-2 : tie.Need-good-stamp-requires-2
-good-stamp-requires-2 c κs = search needs
+    let e = refused-1 s (a .side) f (a .receive) (a .transmit) o (sym (at tie.After-is-well-formed (search) .is-well-formed .ensures)
+    ∙ not-false _ (c .before .if1 .left)) (not-true _ (sym (outside f) ∙ c .if2 .taken)) in
+    let w = wired (search) in
+    ends s (a .side) f (a .receive) (a .transmit) o (sym e) (record { words = search needs; both = search needs }) (w .0) (w .1)
 
 returns-3 : tie.Need-returns-3
-returns-3 c = let a = c .before .before .before .before .before .before .before .before .before .before .before .before .before .before .before .before .args in
+returns-3 c = let a = at tie.Start (search) .args in
     let s = viewOf (now (a .set)) (now (a .names)) (now (a .ids)) (now (a .timers)) (now (a .rdi)) (now (a .run)) (now (a .totals)) in
     let f = now (a .frame) in
     let o = now (a .out) in
-    let w : length (now (a .run)) ≡ runWords = search needs in
-    let z : length (now (a .totals)) ≡ 2 = search needs in
-    let e = refused-6 s (a .side) f (a .receive) (a .transmit) o (sym (c .before .before .before .before .before .is-well-formed .ensures) ∙ not-false _ (c .before .before .before .before .if1 .left)) (not-false _ (sym (outside f) ∙ c .before .before .before .if2 .left)) (sym (ap₂ (λ (x y : Bool). x && y) (c .before .before .good-stamp .ensures) (c .before .good-stamp2 .ensures)) ∙ not-true _ (c .if3 .taken)) in
-    let g = c .before .before .before .before .before .before .before .before .before .before .before .before .before .before .before .before .good .1 .1 .1 .1 .1 .1 .1 .1 .1 in
-    let v : Wire (a .receive) = record { seconds = g .0 .1 .1 .0 .1; nanoseconds = g .0 .1 .1 .1 .0 .1 } in
-    let x : Wire (a .transmit) = record { seconds = g .1 .0 .1 .1 .0 .1; nanoseconds = g .1 .0 .1 .1 .1 .0 .1 } in
-    ends s (a .side) f (a .receive) (a .transmit) o (sym e) (record { words = w; both = z }) v x
+    let e = refused-6 s (a .side) f (a .receive) (a .transmit) o (sym (at tie.After-is-well-formed (search) .is-well-formed .ensures)
+    ∙ not-false _ (at tie.Else1 (search) .if1 .left)) (not-false _ (sym (outside f) ∙ at tie.Else2 (search) .if2 .left))
+    (sym (ap₂ (λ (x y : Bool). x && y) (at tie.After-good-stamp (search) .good-stamp .ensures) (c .before .good-stamp2 .ensures))
+    ∙ not-true _ (c .if3 .taken)) in
+    let w = wired (search) in
+    ends s (a .side) f (a .receive) (a .transmit) o (sym e) (record { words = search needs; both = search needs }) (w .0) (w .1)
 
-decide-requires : tie.Need-decide-requires
-decide-requires c κs = search needs
-
-carry-out-requires : tie.Need-carry-out-requires
-carry-out-requires c κs = search needs
-
-same-length : tie.Need-same-length
-same-length c = search needs
+-- the walk is too long for one search: from the first test back to the start
+abbrev start-of : tie.After-is-well-formed → tie.Start
+start-of c = search
 
 returns-4 : tie.Need-returns-4
-returns-4 c = let a = c .before .before .before .before .before .before .before .before .before .before .before .before .before .before .before .before .before .before .before .before .before .before .before .before .before .args in
+returns-4 c = let a = start-of (search) .args in
     let s = viewOf (now (a .set)) (now (a .names)) (now (a .ids)) (now (a .timers)) (now (a .rdi)) (now (a .run)) (now (a .totals)) in
     let f = now (a .frame) in
     let o = now (a .out) in
-    let e = heeded s (a .side) f (a .receive) (a .transmit) o (sym (c .before .before .before .before .before .before .before .before .before .before .before .before .before .before .is-well-formed .ensures) ∙ not-false _ (c .before .before .before .before .before .before .before .before .before .before .before .before .before .if1 .left)) (not-false _ (sym (outside f) ∙ c .before .before .before .before .before .before .before .before .before .before .before .before .if2 .left)) (sym (ap₂ (λ (x y : Bool). x && y) (c .before .before .before .before .before .before .before .before .before .before .before .good-stamp .ensures) (c .before .before .before .before .before .before .before .before .before .before .good-stamp2 .ensures)) ∙ not-false _ (c .before .before .before .before .before .before .before .before .before .if3 .left)) in
-    let d = c .before .before .carry-out .ensures .0 ∙ ap (carriedOut s f (a .receive) (a .transmit) o) (c .before .before .before .before .before .before .before .before .decide .ensures) ∙ sym e in
-    let g = c .before .before .before .before .before .before .before .before .before .before .before .before .before .before .before .before .before .before .before .before .before .before .before .before .before .good .1 .1 .1 .1 .1 .1 .1 .1 .1 in
-    let v : Wire (a .receive) = record { seconds = g .0 .1 .1 .0 .1; nanoseconds = g .0 .1 .1 .1 .0 .1 } in
-    let x : Wire (a .transmit) = record { seconds = g .1 .0 .1 .1 .0 .1; nanoseconds = g .1 .0 .1 .1 .1 .0 .1 } in
-    ends s (a .side) f (a .receive) (a .transmit) o d (c .before .before .carry-out .ensures .1) v x
+    let e = heeded s (a .side) f (a .receive) (a .transmit) o (sym (at tie.After-is-well-formed (search) .is-well-formed .ensures)
+    ∙ not-false _ (at tie.Else1 (search) .if1 .left)) (not-false _ (sym (outside f) ∙ at tie.Else2 (search) .if2 .left))
+    (sym (ap₂ (λ (x y : Bool). x && y) (at tie.After-good-stamp (search) .good-stamp .ensures)
+    (at tie.After-good-stamp2 (search) .good-stamp2 .ensures)) ∙ not-false _ (at tie.Else3 (search) .if3 .left)) in
+    let d = at tie.After-carry-out (search) .carry-out .ensures .0
+    ∙ ap (carriedOut s f (a .receive) (a .transmit) o) (at tie.After-decide (search) .decide .ensures) ∙ sym e in
+    let w = wired (start-of (search)) in
+    ends s (a .side) f (a .receive) (a .transmit) o d (at tie.After-carry-out (search) .carry-out .ensures .1) (w .0) (w .1)
 
 pub on-frame-spec : {M : Type 1} → statement M
 on-frame-spec =
     tie.close
-    (tie.spec
-    is-well-formed-requires
-    returns
-    returns-2
-    good-stamp-requires
-    good-stamp-requires-2
-    returns-3
-    decide-requires
-    carry-out-requires
-    same-length
+    (tie.spec (search needs) returns returns-2 (search needs) (search needs) returns-3 (search needs) (search needs) (search needs)
     returns-4)

@@ -5,6 +5,7 @@ use denote.Ref.{now}
 use lib.ListN.{length}
 use Prim.Native.Nat.{_≤_}
 use lib.Seq.{length-take-le, take-all}
+use Rattle.base_laws.proofs.Places.{at}
 use borrow.Author.Needs.{needs}
 use Rattle.receive_peer.proofs.front.Statement.{statement}
 use Rattle.receive_peer.proofs.front.Tie as tie
@@ -15,11 +16,9 @@ returns c = let a = c .before .args in
     sym (take-all (a .count) (now (a .slots)) short)
 
 slice-aggregate-result : tie.Need-slice-aggregate-result
-slice-aggregate-result c = let a = c .before .before .args in
+slice-aggregate-result c = let a = at tie.Start (search) .args in
     sym (length-take-le (a .count) (now (a .slots)) (omega arith))
 
-returns-2 : tie.Need-returns-2
-returns-2 c = search needs
-
 pub front-spec : {M : Type 1} → statement M
-front-spec = tie.close (tie.spec returns slice-aggregate-result returns-2)
+front-spec = tie.close
+    (tie.spec returns slice-aggregate-result (search needs))

@@ -5,15 +5,6 @@ use borrow.Author.Needs.{needs}
 use Rattle.receive_respond.proofs.answer_for.Statement.{statement}
 use Rattle.receive_respond.proofs.answer_for.Tie as tie
 
-enum-told : tie.Need-enum-told
-enum-told c = search needs
-
-enum-told-2 : tie.Need-enum-told-2
-enum-told-2 c = search needs
-
-enum-known-replied : tie.Need-enum-known-replied
-enum-known-replied c = search needs
-
 returns : tie.Need-returns
 unfolding answerFor
 returns c = sym (ap answerFor (c .enum-told .given .1))
@@ -28,4 +19,5 @@ returns-3 c = sym (ap answerFor (c .before .replied .given .1))
 
 pub answer-for-spec : {M : Type 1} → statement M
 answer-for-spec =
-    tie.close (tie.spec enum-told enum-told-2 enum-known-replied returns returns-2 returns-3)
+    tie.close
+    (tie.spec (search needs) (search needs) (search needs) returns returns-2 returns-3)

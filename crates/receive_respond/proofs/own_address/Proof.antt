@@ -7,6 +7,7 @@ use denote.Ref.{now}
 use lib.ListN.{length, getD}
 use Rattle.base_laws.specs.Lists.{part}
 use Rattle.state_settings.specs.Settings.{nameOctets}
+use Rattle.base_laws.proofs.Places.{at}
 use borrow.Author.Needs.{needs}
 use Rattle.receive_respond.proofs.own_address.Statement.{statement}
 use Rattle.receive_respond.proofs.own_address.Tie as tie
@@ -21,37 +22,12 @@ first-six (x0 ∷ x1 ∷ x2 ∷ x3 ∷ []) h = absurd (omega arith)
 first-six (x0 ∷ x1 ∷ x2 ∷ x3 ∷ x4 ∷ []) h = absurd (omega arith)
 first-six (x0 ∷ x1 ∷ x2 ∷ x3 ∷ x4 ∷ x5 ∷ l) h = refl
 
-element-copy-out-t6 : tie.Need-element-copy-out-t6
-element-copy-out-t6 c = search needs
-
-element-copy-out-t9 : tie.Need-element-copy-out-t9
-element-copy-out-t9 c = search needs
-
-element-copy-out-t12 : tie.Need-element-copy-out-t12
-element-copy-out-t12 c = search needs
-
-element-copy-out-t15 : tie.Need-element-copy-out-t15
-element-copy-out-t15 c = search needs
-
-element-copy-out-t18 : tie.Need-element-copy-out-t18
-element-copy-out-t18 c = search needs
-
-element-copy-out-t21 : tie.Need-element-copy-out-t21
-element-copy-out-t21 c = search needs
-
 returns : tie.Need-returns
-returns c = let l = now (c .before .before .before .before .before .before .before .args .names) in
+returns c = let l = now (at tie.Start (search) .args .names) in
     let h : length l ≡ nameOctets = search needs in
     first-six l (omega arith)
 
 pub own-address-spec : {M : Type 1} → statement M
 own-address-spec =
     tie.close
-    (tie.spec
-    element-copy-out-t6
-    element-copy-out-t9
-    element-copy-out-t12
-    element-copy-out-t15
-    element-copy-out-t18
-    element-copy-out-t21
-    returns)
+    (tie.spec (search needs) (search needs) (search needs) (search needs) (search needs) (search needs) returns)

@@ -10,17 +10,6 @@ returns : tie.Need-returns
 returns c = let a = c .before .args in
     sym (set-out (now (a .slots)) (a .slot) (a .word) (c .if1 .taken))
 
-mul-slots : tie.Need-mul-slots
-mul-slots c = search needs
-
-slice-write-slots : tie.Need-slice-write-slots
-slice-write-slots c = search needs
-
-same-length : tie.Need-same-length
-same-length c = search needs
-
-returns-2 : tie.Need-returns-2
-returns-2 c = search needs
-
 pub put-slot-spec : {M : Type 1} → statement M
-put-slot-spec = tie.close (tie.spec returns mul-slots slice-write-slots same-length returns-2)
+put-slot-spec = tie.close
+    (tie.spec returns (search needs) (search needs) (search needs) (search needs))

@@ -8,9 +8,6 @@ use borrow.Author.Needs.{needs}
 use Rattle.replay_calls.proofs.hands_over.Statement.{statement}
 use Rattle.replay_calls.proofs.hands_over.Tie as tie
 
-row-of-requires : tie.Need-row-of-requires
-row-of-requires c κs = search needs
-
 mul-result : tie.Need-mul-result
 mul-result c = omega (arith, row-most (c .before .args .number), c .row-of .ensures)
 
@@ -22,4 +19,5 @@ unfolding handsOver
 returns c = ap (ltb 0) (place-read (c .before .args .number) (c .row-of .ensures))
 
 pub hands-over-spec : {M : Type 1} → statement M
-hands-over-spec = tie.close (tie.spec row-of-requires mul-result array-read-result returns)
+hands-over-spec = tie.close
+    (tie.spec (search needs) mul-result array-read-result returns)

@@ -7,24 +7,20 @@ use mathlib.Core.List.{[], _∷_, _++_}
 use lib.ListN.{getD}
 use Rattle.replay_calls.specs.Calls.{places, placeOf, frontNumber}
 use Rattle.replay_calls.proofs.Calls.{row-most, place-read, room-cut, room-none, room-short, room-there}
+use Rattle.base_laws.proofs.Places.{at}
 use borrow.Author.Needs.{needs}
 use Rattle.replay_calls.proofs.room_of.Statement.{statement}
 use Rattle.replay_calls.proofs.room_of.Tie as tie
 
 returns : tie.Need-returns
-returns c = room-cut (now (c .before .before .args .call)) (omega arith)
-
-read-little-requires : tie.Need-read-little-requires
-read-little-requires c κs = search needs
-
-row-of-requires : tie.Need-row-of-requires
-row-of-requires c κs = search needs
+returns c = room-cut (now (at tie.Start (search) .args .call)) (omega arith)
 
 -- the row of the call's number, and the place read in it
 in-table : (c : tie.After-row-of) → c .row-of .result < 17
 in-table c = omega (arith, row-most (c .before .read-little .result), c .row-of .ensures)
 
-place : (c : tie.After-row-of) → getD (places ++ (0 ∷ [])) (c .row-of .result) 0 ≡ placeOf (frontNumber (now (c .before .before .before .before .args .call)))
+place : (c : tie.After-row-of)
+    → getD (places ++ (0 ∷ [])) (c .row-of .result) 0 ≡ placeOf (frontNumber (now (at tie.Start (search) .args .call)))
 place c = place-read (c .before .read-little .result) (c .row-of .ensures) ∙ ap placeOf (c .before .read-little .ensures .is)
 
 mul-place : tie.Need-mul-place
@@ -34,35 +30,19 @@ array-read-place : tie.Need-array-read-place
 array-read-place c = in-table c
 
 returns-2 : tie.Need-returns-2
-returns-2 c = room-none (now (c .before .before .before .before .before .args .call)) (omega arith) (place (c .before)) (c .if2 .taken)
-
-sub-if3 : tie.Need-sub-if3
-sub-if3 c = search needs
+returns-2 c = room-none (now (at tie.Start (search) .args .call)) (omega arith) (place (c .before)) (c .if2 .taken)
 
 returns-3 : tie.Need-returns-3
-returns-3 c = room-short (now (c .before .before .before .before .before .before .args .call)) (omega arith) (place (c .before .before)) (c .before .if2 .left) (c .if3 .taken)
-
-read-little-requires-2 : tie.Need-read-little-requires-2
-read-little-requires-2 c κs = search needs
-
-cast-result : tie.Need-cast-result
-cast-result c = search needs
+returns-3 c = room-short (now (at tie.Start (search) .args .call)) (omega arith) (place (at tie.After-row-of (search)))
+    (c .before .if2 .left) (c .if3 .taken)
 
 returns-4 : tie.Need-returns-4
-returns-4 c = c .read-little2 .ensures .is ∙ room-there (now (c .before .before .before .before .before .before .before .args .call)) (omega arith) (place (c .before .before .before)) (c .before .before .if2 .left) (c .before .if3 .left)
+returns-4 c = c .read-little2 .ensures .is
+    ∙ room-there (now (at tie.Start (search) .args .call)) (omega arith) (place (at tie.After-row-of (search)))
+    (at tie.Else2 (search) .if2 .left) (c .before .if3 .left)
 
 pub room-of-spec : {M : Type 1} → statement M
 room-of-spec =
     tie.close
-    (tie.spec
-    returns
-    read-little-requires
-    row-of-requires
-    mul-place
-    array-read-place
-    returns-2
-    sub-if3
-    returns-3
-    read-little-requires-2
-    cast-result
-    returns-4)
+    (tie.spec returns (search needs) (search needs) mul-place array-read-place returns-2 (search needs) returns-3 (search needs)
+    (search needs) returns-4)

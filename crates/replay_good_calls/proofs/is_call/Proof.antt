@@ -8,21 +8,13 @@ use lib.Dec.{leb}
 use lib.ListN.{length}
 use Rattle.replay_calls.proofs.Calls.{row-most}
 use Rattle.replay_good_calls.proofs.GoodCalls.{body-read, call-cut, call-is}
+use Rattle.base_laws.proofs.Places.{at}
 use borrow.Author.Needs.{needs}
 use Rattle.replay_good_calls.proofs.is_call.Statement.{statement}
 use Rattle.replay_good_calls.proofs.is_call.Tie as tie
 
 returns : tie.Need-returns
-returns c = call-cut (now (c .before .before .args .call)) (omega arith)
-
-read-little-requires : tie.Need-read-little-requires
-read-little-requires c κs = search needs
-
-row-of-requires : tie.Need-row-of-requires
-row-of-requires c κs = search needs
-
-sub-n : tie.Need-sub-n
-sub-n c = search needs
+returns c = call-cut (now (at tie.Start (search) .args .call)) (omega arith)
 
 -- the row of the call's number
 in-table : (c : tie.After-row-of) → c .row-of .result < 17
@@ -40,31 +32,16 @@ mul-long-2 c = omega (arith, in-table c)
 array-read-long-2 : tie.Need-array-read-long-2
 array-read-long-2 c = in-table c
 
-side-good-requires : tie.Need-side-good-requires
-side-good-requires c κs = search needs
-
-room-of-requires : tie.Need-room-of-requires
-room-of-requires c κs = search needs
-
 returns-2 : tie.Need-returns-2
-returns-2 c = let call = now (c .before .before .before .before .before .before .args .call) in
-    let row = c .before .before in
+returns-2 c = let call = now (at tie.Start (search) .args .call) in
+    let row = at tie.After-row-of (search) in
     let number = row .before .read-little in
-    ap (λ (b : Bool). b && c .before .side-good .result && leb (c .room-of .result) 1600) (body-read (number .result) (row .row-of .ensures) (length call - 2))
+    ap (λ (b : Bool). b && c .before .side-good .result && leb (c .room-of .result) 1600)
+    (body-read (number .result) (row .row-of .ensures) (length call - 2))
     ∙ rw (c .room-of .ensures, c .before .side-good .ensures, number .ensures .is) (call-is call (omega arith))
 
 pub is-call-spec : {M : Type 1} → statement M
 is-call-spec =
     tie.close
-    (tie.spec
-    returns
-    read-little-requires
-    row-of-requires
-    sub-n
-    mul-long
-    array-read-long
-    mul-long-2
-    array-read-long-2
-    side-good-requires
-    room-of-requires
-    returns-2)
+    (tie.spec returns (search needs) (search needs) (search needs) mul-long array-read-long mul-long-2 array-read-long-2 (search needs)
+    (search needs) returns-2)

@@ -2,33 +2,10 @@
 use mathlib.Core.Path.{_≡_}
 use mir.Syntax.{w64}
 use mir.Val.{toZ, ofZ}
+use Rattle.base_laws.proofs.Places.{at}
 use borrow.Author.Needs.{needs}
 use Rattle.replay_session.proofs.session_in.Statement.{statement}
 use Rattle.replay_session.proofs.session_in.Tie as tie
-
-read-little-requires : tie.Need-read-little-requires
-read-little-requires c κs = search needs
-
-read-little-requires-2 : tie.Need-read-little-requires-2
-read-little-requires-2 c κs = search needs
-
-read-little-requires-3 : tie.Need-read-little-requires-3
-read-little-requires-3 c κs = search needs
-
-read-little-requires-4 : tie.Need-read-little-requires-4
-read-little-requires-4 c κs = search needs
-
-read-little-requires-5 : tie.Need-read-little-requires-5
-read-little-requires-5 c κs = search needs
-
-read-little-requires-6 : tie.Need-read-little-requires-6
-read-little-requires-6 c κs = search needs
-
-read-little-signed-requires : tie.Need-read-little-signed-requires
-read-little-signed-requires c κs = search needs
-
-read-little-signed-requires-2 : tie.Need-read-little-signed-requires-2
-read-little-signed-requires-2 c κs = search needs
 
 returns : tie.Need-returns
 returns c =
@@ -38,12 +15,12 @@ returns c =
     let far : toZ w64 (ofZ w64 (f .result)) ≡ f .result = search needs in
     rw (near, far)
     (rw (
-      c .before .before .before .before .before .before .before .read-little .ensures .is,
-      c .before .before .before .before .before .before .read-little2 .ensures .is,
-      c .before .before .before .before .before .read-little3 .ensures .is,
-      c .before .before .before .before .read-little4 .ensures .is,
-      c .before .before .before .read-little5 .ensures .is,
-      c .before .before .read-little6 .ensures .is,
+      at tie.After-read-little (search) .read-little .ensures .is,
+      at tie.After-read-little2 (search) .read-little2 .ensures .is,
+      at tie.After-read-little3 (search) .read-little3 .ensures .is,
+      at tie.After-read-little4 (search) .read-little4 .ensures .is,
+      at tie.After-read-little5 (search) .read-little5 .ensures .is,
+      at tie.After-read-little6 (search) .read-little6 .ensures .is,
       n .ensures,
       f .ensures,
     ))
@@ -51,13 +28,5 @@ returns c =
 pub session-in-spec : {M : Type 1} → statement M
 session-in-spec =
     tie.close
-    (tie.spec
-    read-little-requires
-    read-little-requires-2
-    read-little-requires-3
-    read-little-requires-4
-    read-little-requires-5
-    read-little-requires-6
-    read-little-signed-requires
-    read-little-signed-requires-2
+    (tie.spec (search needs) (search needs) (search needs) (search needs) (search needs) (search needs) (search needs) (search needs)
     returns)

@@ -12,83 +12,39 @@ use borrow.Author.Needs.{needs}
 use Rattle.replay_state_read.proofs.state_in.Statement.{statement}
 use Rattle.replay_state_read.proofs.state_in.Tie as tie
 
-slice-aggregate-copy-octets : tie.Need-slice-aggregate-copy-octets
-slice-aggregate-copy-octets c = search needs
-
-sub-copy-octets : tie.Need-sub-copy-octets
-sub-copy-octets c = search needs
-
-part-copy-octets-start : tie.Need-part-copy-octets-start
-part-copy-octets-start c = search needs
-
-part-copy-octets-end : tie.Need-part-copy-octets-end
-part-copy-octets-end c = search needs
-
-copy-octets-requires : tie.Need-copy-octets-requires
-copy-octets-requires c κs = search needs
-
-settings-of-requires : tie.Need-settings-of-requires
-settings-of-requires c κs = search needs
-
-words-in-requires : tie.Need-words-in-requires
-words-in-requires c κs = search needs
-
-words-in-requires-2 : tie.Need-words-in-requires-2
-words-in-requires-2 c κs = search needs
-
-slice-aggregate-copy-octets-2 : tie.Need-slice-aggregate-copy-octets-2
-slice-aggregate-copy-octets-2 c = search needs
-
-sub-copy-octets-2 : tie.Need-sub-copy-octets-2
-sub-copy-octets-2 c = search needs
-
-part-copy-octets-start-2 : tie.Need-part-copy-octets-start-2
-part-copy-octets-start-2 c = search needs
-
-part-copy-octets-end-2 : tie.Need-part-copy-octets-end-2
-part-copy-octets-end-2 c = search needs
-
-copy-octets-requires-2 : tie.Need-copy-octets-requires-2
-copy-octets-requires-2 c κs = search needs
-
-session-in-requires : tie.Need-session-in-requires
-session-in-requires c κs = search needs
-
 run-in-requires : tie.Need-run-in-requires
-run-in-requires c κs = rw (c .before .before .before .before .before .before .before .before .before .before .before .before .before .before .all .given .0) (omega arith)
+run-in-requires c κs = rw
+    (c .before .before .before .before .before .before .before .before .before .before .before .before .before .before .all .given .0)
+    (omega arith)
 
 returns : tie.Need-returns
 unfolding part
 returns c =
     let from = now (c .before .before .before .before .before .before .before .before .before .before .before .before .before .before .before .before .before .before .before .before .args .from) in
-    let long : length from ≡ 194 = c .before .before .before .before .before .before .before .before .before .before .before .before .before .before .before .before .before .before .before .all .given .0 in
+    let long : length from ≡ 194
+    = c .before .before .before .before .before .before .before .before .before .before .before .before .before .before .before .before .before .before .before .all .given .0 in
     let f = c .before .before .before .before .before .before .before .before .before .before .before .before .before .before .before .before .copy-octets in
     let b = c .before .before .before .before .before .before .before .before .copy-octets2 in
     let s = c .before .before .before .before .before .session-in in
-    let front : f .last .0 ≡ part 0 81 from = f .ensures ∙ laid-whole (replicate 81 0) (part 0 81 from) 81 refl (length-part 0 81 from (rw long (omega arith))) in
-    let back : b .last .0 ≡ part 157 37 from = b .ensures ∙ laid-whole (replicate 37 0) (part 157 37 from) 37 refl (length-part 157 37 from (rw long (omega arith))) in
+    let front : f .last .0 ≡ part 0 81 from = f .ensures
+    ∙ laid-whole (replicate 81 0) (part 0 81 from) 81 refl (length-part 0 81 from (rw long (omega arith))) in
+    let back : b .last .0 ≡ part 157 37 from = b .ensures
+    ∙ laid-whole (replicate 37 0) (part 157 37 from) 37 refl (length-part 157 37 from (rw long (omega arith))) in
     let near : toZ w64 (ofZ w64 (s .result .near)) ≡ s .result .near = search needs in
     let far : toZ w64 (ofZ w64 (s .result .far)) ≡ s .result .far = search needs in
     rw (near, far)
-    (rw (c .before .before .before .before .before .before .before .before .before .before .before .before .before .settings-of .ensures, front, c .before .before .before .before .before .before .before .before .before .before .before .before .words-in .ensures, c .before .before .before .before .before .before .before .before .before .before .before .words-in2 .ensures, c .before .before .before .before .run-in .ensures, s .ensures, back))
+    (rw (
+      c .before .before .before .before .before .before .before .before .before .before .before .before .before .settings-of .ensures,
+      front,
+      c .before .before .before .before .before .before .before .before .before .before .before .before .words-in .ensures,
+      c .before .before .before .before .before .before .before .before .before .before .before .words-in2 .ensures,
+      c .before .before .before .before .run-in .ensures,
+      s .ensures,
+      back,
+    ))
 
 pub state-in-spec : {M : Type 1} → statement M
 state-in-spec =
     tie.close
-    (tie.spec
-    slice-aggregate-copy-octets
-    sub-copy-octets
-    part-copy-octets-start
-    part-copy-octets-end
-    copy-octets-requires
-    settings-of-requires
-    words-in-requires
-    words-in-requires-2
-    slice-aggregate-copy-octets-2
-    sub-copy-octets-2
-    part-copy-octets-start-2
-    part-copy-octets-end-2
-    copy-octets-requires-2
-    session-in-requires
-    run-in-requires
-    returns)
+    (tie.spec (search needs) (search needs) (search needs) (search needs) (search needs) (search needs) (search needs) (search needs)
+    (search needs) (search needs) (search needs) (search needs) (search needs) (search needs) run-in-requires returns)

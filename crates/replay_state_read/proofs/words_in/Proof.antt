@@ -12,6 +12,7 @@ use Rattle.state_settings.specs.Settings.{slots}
 use Rattle.replay_session.specs.Session.{fieldAt}
 use Rattle.replay_state.specs.Words.{wordsIn}
 use Rattle.replay_state.proofs.Words.{next-place, place-fits, read-start, read-turn, read-all}
+use Rattle.base_laws.proofs.Places.{at}
 use borrow.Author.Needs.{needs}
 use Rattle.replay_state_read.proofs.words_in.Statement.{statement}
 use Rattle.replay_state_read.proofs.words_in.Tie as tie
@@ -28,27 +29,20 @@ loop-holds c = let a = c .before .args in
     (search needs, omega (arith, mul-zero (a .n)), read-start (a .n) (a .at) (now (a .from)) (replicate slots 0))
 
 read-little-requires : tie.Need-read-little-requires Inv-loop μ-loop
-read-little-requires c κs = omega (arith, place-fits (c .before .before .before .args .n) (c .before .loop .i) slots (omega arith))
-
-mul-words : tie.Need-mul-words Inv-loop μ-loop
-mul-words c = search needs
-
-array-write-words : tie.Need-array-write-words Inv-loop μ-loop
-array-write-words c = search needs
+read-little-requires c κs = omega
+    (arith, place-fits (at (tie.Start Inv-loop μ-loop) (search) .args .n) (c .before .loop .i) slots (omega arith))
 
 add-place : tie.Need-add-place Inv-loop μ-loop
-add-place c = omega (arith, place-fits (c .before .before .before .before .args .n) (c .before .before .loop .i) slots (omega arith))
-
-add-i : tie.Need-add-i Inv-loop μ-loop
-add-i c = search needs
-
-loop-less : tie.Need-loop-less Inv-loop μ-loop
-loop-less c = search needs
+add-place c = omega (
+  arith,
+  place-fits (at (tie.Start Inv-loop μ-loop) (search) .args .n)
+      (at (tie.At-loop Inv-loop μ-loop) (search) .loop .i) slots (omega arith),
+)
 
 loop-again : tie.Need-loop-again Inv-loop μ-loop
 loop-again c =
-    let l = c .before .before .loop in
-    let a = c .before .before .before .before .args in
+    let l = at (tie.At-loop Inv-loop μ-loop) (search) .loop in
+    let a = at (tie.Start Inv-loop μ-loop) (search) .args in
     let v = c .read-little .result in (
       omega arith,
       omega (arith, l .inv .1, next-place (a .n) (l .i)),
@@ -60,21 +54,11 @@ loop-again c =
 returns : tie.Need-returns Inv-loop μ-loop
 returns c =
     let l = c .before .loop in
-    let a = c .before .before .before .args in
+    let a = at (tie.Start Inv-loop μ-loop) (search) .args in
     read-all (a .n) (a .at) (l .i) (now (a .from)) (replicate slots 0) (l .inv .2) (omega arith)
 
 pub words-in-spec : {M : Type 1} → statement M
 words-in-spec =
     tie.close
-    (tie.spec
-    Inv-loop
-    μ-loop
-    loop-holds
-    read-little-requires
-    mul-words
-    array-write-words
-    add-place
-    add-i
-    loop-less
-    loop-again
-    returns)
+    (tie.spec Inv-loop μ-loop loop-holds read-little-requires (search needs) (search needs) add-place (search needs) (search needs)
+    loop-again returns)

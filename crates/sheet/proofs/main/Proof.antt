@@ -13,9 +13,6 @@ abbrev μ-loop : tie.MeasureT-loop
 header-requires : tie.Need-header-requires Inv-loop μ-loop
 header-requires c κs = tt
 
-slice-aggregate-write-all : tie.Need-slice-aggregate-write-all Inv-loop μ-loop
-slice-aggregate-write-all c = search needs
-
 write-all-requires : tie.Need-write-all-requires Inv-loop μ-loop
 write-all-requires c κs = tt
 
@@ -43,16 +40,5 @@ returns-2 c = tt
 pub main-spec : {M : Type 1} → statement M
 main-spec =
     tie.close
-    (tie.spec
-    Inv-loop
-    μ-loop
-    header-requires
-    slice-aggregate-write-all
-    write-all-requires
-    loop-holds
-    turn-requires
-    sub-turns
-    loop-less
-    loop-again
-    returns
-    returns-2)
+    (tie.spec Inv-loop μ-loop header-requires (search needs) write-all-requires loop-holds turn-requires sub-turns loop-less loop-again
+    returns returns-2)

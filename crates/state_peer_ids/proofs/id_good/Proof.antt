@@ -3,8 +3,6 @@ use borrow.Author.Needs.{needs}
 use Rattle.state_peer_ids.proofs.id_good.Statement.{statement}
 use Rattle.state_peer_ids.proofs.id_good.Tie as tie
 
-returns : tie.Need-returns
-returns c = search needs
-
 pub id-good-spec : {M : Type 1} → statement M
-id-good-spec = tie.close (tie.spec returns)
+id-good-spec = tie.close
+    (tie.spec (search needs))

@@ -5,56 +5,26 @@ use mir.Syntax.{w64}
 use mir.Val.{toZ, ofZ}
 use Rattle.state_view.specs.State.{runWords, lossTotals}
 use Rattle.state_places.proofs.Stores as Stores
+use Rattle.base_laws.proofs.Places.{at}
 use borrow.Author.Needs.{needs}
 use Rattle.state_places.proofs.put_session.Statement.{statement}
 use Rattle.state_places.proofs.put_session.Tie as tie
 
-element-write-run : tie.Need-element-write-run
-element-write-run c = search needs
-
-element-write-run-2 : tie.Need-element-write-run-2
-element-write-run-2 c = search needs
-
-element-write-run-3 : tie.Need-element-write-run-3
-element-write-run-3 c = search needs
-
-element-write-run-4 : tie.Need-element-write-run-4
-element-write-run-4 c = search needs
-
-element-write-run-5 : tie.Need-element-write-run-5
-element-write-run-5 c = search needs
-
-element-write-run-6 : tie.Need-element-write-run-6
-element-write-run-6 c = search needs
-
-element-set-from-near : tie.Need-element-set-from-near
-element-set-from-near c = search needs
-
-element-set-from-far : tie.Need-element-set-from-far
-element-set-from-far c = search needs
-
 returns : tie.Need-returns
 returns c =
-    let o = c .before .before .before .before .before .before .before in
+    let o = at tie.Start (search) in
     let a = o .args in
     let w : length (a .run .now) ≡ runWords = search needs in
     let z : length (a .totals .now) ≡ lossTotals = search needs in
     let n : toZ w64 (ofZ w64 (a .session .near)) ≡ a .session .near = search needs in
     let f : toZ w64 (ofZ w64 (a .session .far)) ≡ a .session .far = search needs in (
-      rw (n, f) (Stores.session (a .set .now) (a .names .now) (a .ids .now) (a .timers .now) (a .rdi .now) (a .session) (a .run .now) (a .totals .now) w z),
+      rw (n, f) (Stores.session (a .set .now) (a .names .now) (a .ids .now) (a .timers .now) (a .rdi .now) (a .session) (a .run .now)
+          (a .totals .now) w z),
       record { words = simp length-set w; both = simp length-set z },
     )
 
 pub put-session-spec : {M : Type 1} → statement M
 put-session-spec =
     tie.close
-    (tie.spec
-    element-write-run
-    element-write-run-2
-    element-write-run-3
-    element-write-run-4
-    element-write-run-5
-    element-write-run-6
-    element-set-from-near
-    element-set-from-far
+    (tie.spec (search needs) (search needs) (search needs) (search needs) (search needs) (search needs) (search needs) (search needs)
     returns)

@@ -9,6 +9,7 @@ use lib.ListN.{length, getD}
 use Rattle.base_laws.proofs.Loops.{JoinedFrom, from-start, from-next, from-all}
 use Rattle.base_words.specs.Words.{within}
 use Rattle.state_slots.proofs.Slots.{one-more}
+use Rattle.base_laws.proofs.Places.{at}
 use borrow.Author.Needs.{needs}
 use Rattle.state_slots.proofs.unused_empty.Statement.{statement}
 use Rattle.state_slots.proofs.unused_empty.Tie as tie
@@ -22,24 +23,9 @@ abbrev μ-loop : tie.MeasureT-loop
 loop-holds : tie.Need-loop-holds Inv-loop μ-loop
 loop-holds c = from-start
 
-mul-unused-word : tie.Need-mul-unused-word Inv-loop μ-loop
-mul-unused-word c = search needs
-
-shared-slice-read-unused-word : tie.Need-shared-slice-read-unused-word Inv-loop μ-loop
-shared-slice-read-unused-word c = search needs
-
-unused-word-requires : tie.Need-unused-word-requires Inv-loop μ-loop
-unused-word-requires c κs = search needs
-
-add-i : tie.Need-add-i Inv-loop μ-loop
-add-i c = search needs
-
-loop-less : tie.Need-loop-less Inv-loop μ-loop
-loop-less c = search needs
-
 loop-again : tie.Need-loop-again Inv-loop μ-loop
-loop-again c = let l = c .before .before .before .loop in
-    let a = c .before .before .before .before .before .args in
+loop-again c = let l = at (tie.At-loop Inv-loop μ-loop) (search) .loop in
+    let a = at (tie.Start Inv-loop μ-loop) (search) .args in
     let s = now (a .slots) in
     let e = one-more (l .rest) (c .unused-word .result) (ltb (l .i) (a .used)) (getD s (l .i) 0) (c .unused-word .ensures) in
     subst (λ (good : Bool). JoinedFrom (within 0) (a .used) s good (l .i + 1)) (sym e) (from-next (l .inv) 0 (omega arith))
@@ -50,14 +36,4 @@ returns c = from-all (c .before .loop .inv) (omega arith)
 pub unused-empty-spec : {M : Type 1} → statement M
 unused-empty-spec =
     tie.close
-    (tie.spec
-    Inv-loop
-    μ-loop
-    loop-holds
-    mul-unused-word
-    shared-slice-read-unused-word
-    unused-word-requires
-    add-i
-    loop-less
-    loop-again
-    returns)
+    (tie.spec Inv-loop μ-loop loop-holds (search needs) (search needs) (search needs) (search needs) (search needs) loop-again returns)

@@ -5,6 +5,7 @@ use native.Mathlib.Omega.{arith}
 use denote.Ref.{now}
 use lib.ListN.{length}
 use lib.Seq.{take-all, length-take-le}
+use Rattle.base_laws.proofs.Places.{at}
 use borrow.Author.Needs.{needs}
 use Rattle.state_standing.proofs.front.Statement.{statement}
 use Rattle.state_standing.proofs.front.Tie as tie
@@ -17,12 +18,10 @@ returns c =
 
 slice-aggregate-result : tie.Need-slice-aggregate-result
 slice-aggregate-result c =
-    let a = c .before .before .args in
+    let a = at tie.Start (search) .args in
     let enough : a .count ≤ length (now (a .slots)) = omega arith in
     sym (length-take-le (a .count) (now (a .slots)) enough)
 
-returns-2 : tie.Need-returns-2
-returns-2 c = search needs
-
 pub front-spec : {M : Type 1} → statement M
-front-spec = tie.close (tie.spec returns slice-aggregate-result returns-2)
+front-spec = tie.close
+    (tie.spec returns slice-aggregate-result (search needs))

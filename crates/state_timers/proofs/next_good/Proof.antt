@@ -3,8 +3,6 @@ use borrow.Author.Needs.{needs}
 use Rattle.state_timers.proofs.next_good.Statement.{statement}
 use Rattle.state_timers.proofs.next_good.Tie as tie
 
-returns : tie.Need-returns
-returns c = search needs
-
 pub next-good-spec : {M : Type 1} → statement M
-next-good-spec = tie.close (tie.spec returns)
+next-good-spec = tie.close
+    (tie.spec (search needs))

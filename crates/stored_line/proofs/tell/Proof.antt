@@ -3,15 +3,10 @@ use mathlib.Core.Path.{_≡_, sym, ap}
 use mir.Syntax.{w64}
 use mir.Val.{toZ, ofZ}
 use Rattle.stored_line.specs.Calls.{told}
+use Rattle.base_laws.proofs.Places.{at}
 use borrow.Author.Needs.{needs}
 use Rattle.stored_line.proofs.tell.Statement.{statement}
 use Rattle.stored_line.proofs.tell.Tie as tie
-
-enum-told : tie.Need-enum-told
-enum-told c = search needs
-
-enum-known-answer : tie.Need-enum-known-answer
-enum-known-answer c = search needs
 
 returns : tie.Need-returns
 unfolding told
@@ -19,10 +14,11 @@ returns c = sym (ap told (c .enum-told .given .1))
 
 returns-2 : tie.Need-returns-2
 unfolding told
-returns-2 c = let p = c .before .before .answer .given in
+returns-2 c = let p = at tie.After-answer (search) .answer .given in
     let near : toZ w64 (ofZ w64 (p .0 .0 .near)) ≡ p .0 .0 .near = search needs in
     let far : toZ w64 (ofZ w64 (p .0 .0 .far)) ≡ p .0 .0 .far = search needs in
     rw (near, far) (sym (ap told (p .1)))
 
 pub tell-spec : {M : Type 1} → statement M
-tell-spec = tie.close (tie.spec enum-told enum-known-answer returns returns-2)
+tell-spec = tie.close
+    (tie.spec (search needs) (search needs) returns returns-2)

@@ -2,19 +2,18 @@
 use mathlib.Core.Path.{_≡_}
 use mir.Syntax.{w64}
 use mir.Val.{toZ, ofZ}
+use Rattle.base_laws.proofs.Places.{at}
 use borrow.Author.Needs.{needs}
 use Rattle.stored_line_calls.proofs.keeps_rules.Statement.{statement}
 use Rattle.stored_line_calls.proofs.keeps_rules.Tie as tie
 
-well-formed-requires : tie.Need-well-formed-requires
-well-formed-requires c κs = search needs
-
 returns : tie.Need-returns
 returns c =
-    let a = c .before .before .args in
+    let a = at tie.Start (search) .args in
     let near : toZ w64 (ofZ w64 (a .line .near)) ≡ a .line .near = search needs in
     let far : toZ w64 (ofZ w64 (a .line .far)) ≡ a .line .far = search needs in
     rw (near, far) at (c .well-formed .ensures)
 
 pub keeps-rules-spec : {M : Type 1} → statement M
-keeps-rules-spec = tie.close (tie.spec well-formed-requires returns)
+keeps-rules-spec = tie.close
+    (tie.spec (search needs) returns)

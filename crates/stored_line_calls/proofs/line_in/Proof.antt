@@ -3,23 +3,15 @@ use mathlib.Core.Path.{_≡_}
 use mir.Syntax.{w64}
 use mir.Val.{toZ, ofZ}
 use Rattle.stored_line.specs.Line.{lineIn}
+use Rattle.base_laws.proofs.Places.{at}
 use borrow.Author.Needs.{needs}
 use Rattle.stored_line_calls.proofs.line_in.Statement.{statement}
 use Rattle.stored_line_calls.proofs.line_in.Tie as tie
 
-read-little-signed-requires : tie.Need-read-little-signed-requires
-read-little-signed-requires c κs = search needs
-
-read-little-signed-requires-2 : tie.Need-read-little-signed-requires-2
-read-little-signed-requires-2 c κs = search needs
-
-read-little-requires : tie.Need-read-little-requires
-read-little-requires c κs = search needs
-
 returns : tie.Need-returns
 unfolding lineIn
 returns c =
-    let n = c .before .before .read-little-signed in
+    let n = at tie.After-read-little-signed (search) .read-little-signed in
     let f = c .before .read-little-signed2 in
     let near : toZ w64 (ofZ w64 (n .result)) ≡ n .result = search needs in
     let far : toZ w64 (ofZ w64 (f .result)) ≡ f .result = search needs in
@@ -28,8 +20,4 @@ returns c =
 pub line-in-spec : {M : Type 1} → statement M
 line-in-spec =
     tie.close
-    (tie.spec
-    read-little-signed-requires
-    read-little-signed-requires-2
-    read-little-requires
-    returns)
+    (tie.spec (search needs) (search needs) (search needs) returns)

@@ -1,35 +1,32 @@
 -- `stored_line_calls::read_line` meets its contract: one law for each way that it ends.
 use denote.Ref.{now}
 use Rattle.stored_line.proofs.Calls.{ends-head, long-enough, ends-rule, ends-line}
+use Rattle.base_laws.proofs.Places.{at}
 use borrow.Author.Needs.{needs}
 use Rattle.stored_line_calls.proofs.read_line.Statement.{statement}
 use Rattle.stored_line_calls.proofs.read_line.Tie as tie
 
-is-record-requires : tie.Need-is-record-requires
-is-record-requires c κs = search needs
-
 returns : tie.Need-returns
-returns c = let a = c .before .before .before .args in
+returns c = let a = at tie.Start (search) .args in
     ends-head (now (a .from)) (c .before .is-record .ensures) (c .if1 .taken)
 
 line-in-requires : tie.Need-line-in-requires
-line-in-requires c κs = let a = c .before .before .before .args in
+line-in-requires c κs = let a = at tie.Start (search) .args in
     long-enough (now (a .from)) (c .before .is-record .ensures) (c .if1 .left)
 
-keeps-rules-requires : tie.Need-keeps-rules-requires
-keeps-rules-requires c κs = search needs
-
 returns-2 : tie.Need-returns-2
-returns-2 c = let s = c .before .before .before in
-    let a = s .before .before .before .args in
-    ends-rule (now (a .from)) (s .before .is-record .ensures) (s .if1 .left) (c .before .before .line-in .ensures) (c .before .keeps-rules .ensures) (c .if2 .taken)
+returns-2 c = let s = at tie.Else1 (search) in
+    let a = at tie.Start (search) .args in
+    ends-rule (now (a .from)) (s .before .is-record .ensures) (s .if1 .left) (at tie.After-line-in (search) .line-in .ensures)
+    (c .before .keeps-rules .ensures) (c .if2 .taken)
 
 returns-3 : tie.Need-returns-3
-returns-3 c = let s = c .before .before .before in
-    let a = s .before .before .before .args in
-    ends-line (now (a .from)) (s .before .is-record .ensures) (s .if1 .left) (c .before .before .line-in .ensures) (c .before .keeps-rules .ensures) (c .if2 .left)
+returns-3 c = let s = at tie.Else1 (search) in
+    let a = at tie.Start (search) .args in
+    ends-line (now (a .from)) (s .before .is-record .ensures) (s .if1 .left) (at tie.After-line-in (search) .line-in .ensures)
+    (c .before .keeps-rules .ensures) (c .if2 .left)
 
 pub read-line-spec : {M : Type 1} → statement M
 read-line-spec =
     tie.close
-    (tie.spec is-record-requires returns line-in-requires keeps-rules-requires returns-2 returns-3)
+    (tie.spec (search needs) returns line-in-requires (search needs) returns-2 returns-3)

@@ -10,43 +10,24 @@ use Rattle.stored_line.proofs.Laws.{near-fits, far-fits}
 use Rattle.base_laws.specs.Lists.{laid}
 use Rattle.stored_replies.specs.Replies.{lineOf}
 use Rattle.stored_replies.proofs.Laws.{record-is}
+use Rattle.base_laws.proofs.Places.{at}
 use borrow.Author.Needs.{needs}
 use Rattle.stored_replies.proofs.put_record.Statement.{statement}
 use Rattle.stored_replies.proofs.put_record.Tie as tie
 
-slice-aggregate-write-line : tie.Need-slice-aggregate-write-line
-slice-aggregate-write-line c = search needs
-
-write-line-requires : tie.Need-write-line-requires
-write-line-requires c κs = search needs
-
-slice-aggregate-copy-octets : tie.Need-slice-aggregate-copy-octets
-slice-aggregate-copy-octets c = search needs
-
-copy-octets-requires : tie.Need-copy-octets-requires
-copy-octets-requires c κs = search needs
-
-same-length : tie.Need-same-length
-same-length c = search needs
-
 returns : tie.Need-returns
-returns c = let copied = c .before .before in
-    let wrote = copied .before .before .before .before in
-    let s = wrote .before .before .before .before in
+returns c = let copied = at tie.After-copy-octets (search) in
+    let wrote = at tie.After-write-line (search) in
+    let s = at tie.Start (search) in
     let a = s .args in
     let line = lineOf (a .s) in
     let near = back (line .near) (near-fits line (s .pre .1)) in
     let far = back (line .far) (far-fits line (s .pre .1)) in
     copied .copy-octets .ensures
-    ∙ ap (λ (l : List ℕ). laid (a .at) l (now (a .into))) (record-is line (replicate 24 0) refl (s .pre .1) near far (wrote .write-line .ensures .0))
+    ∙ ap (λ (l : List ℕ). laid (a .at) l (now (a .into)))
+    (record-is line (replicate 24 0) refl (s .pre .1) near far (wrote .write-line .ensures .0))
 
 pub put-record-spec : {M : Type 1} → statement M
 put-record-spec =
     tie.close
-    (tie.spec
-    slice-aggregate-write-line
-    write-line-requires
-    slice-aggregate-copy-octets
-    copy-octets-requires
-    same-length
-    returns)
+    (tie.spec (search needs) (search needs) (search needs) (search needs) (search needs) returns)

@@ -8,6 +8,7 @@ use lib.ListN.{length, set, length-set}
 use Rattle.base_laws.specs.Lists.{laid}
 use Rattle.stored_settings_body.specs.Body.{idsIn}
 use Rattle.stored_settings_body.proofs.Ids.{read-start, read-turn, read-all}
+use Rattle.base_laws.proofs.Places.{at}
 use borrow.Author.Needs.{needs}
 use Rattle.stored_settings_body.proofs.read_ids.Statement.{statement}
 use Rattle.stored_settings_body.proofs.read_ids.Tie as tie
@@ -21,33 +22,16 @@ abbrev μ-loop : tie.MeasureT-loop
 loop-holds : tie.Need-loop-holds Inv-loop μ-loop
 loop-holds c = (search needs, search needs, refl, read-start _ _)
 
-mul-read-little : tie.Need-mul-read-little Inv-loop μ-loop
-mul-read-little c = search needs
-
-read-little-requires : tie.Need-read-little-requires Inv-loop μ-loop
-read-little-requires c κs = search needs
-
-mul-ids : tie.Need-mul-ids Inv-loop μ-loop
-mul-ids c = search needs
-
-slice-write-ids : tie.Need-slice-write-ids Inv-loop μ-loop
-slice-write-ids c = search needs
-
-add-i : tie.Need-add-i Inv-loop μ-loop
-add-i c = search needs
-
-loop-less : tie.Need-loop-less Inv-loop μ-loop
-loop-less c = search needs
-
 loop-again : tie.Need-loop-again Inv-loop μ-loop
 loop-again c =
-    let l = c .before .before .loop in
-    let a = c .before .before .before .before .before .args in
+    let l = at (tie.At-loop Inv-loop μ-loop) (search) .loop in
+    let a = at (tie.Start Inv-loop μ-loop) (search) .args in
     let v = c .read-little .result in (
       l .inv .0,
       omega arith,
       length-set (l .ids) (l .i) v ∙ l .inv .2,
-      ap (λ (m : List ℕ). set m (l .i) v) (l .inv .3) ∙ read-turn (l .i) v (now (a .from)) (now (a .ids)) (omega arith) (c .read-little .ensures .is),
+      ap (λ (m : List ℕ). set m (l .i) v) (l .inv .3)
+          ∙ read-turn (l .i) v (now (a .from)) (now (a .ids)) (omega arith) (c .read-little .ensures .is),
     )
 
 same-length : tie.Need-same-length Inv-loop μ-loop
@@ -56,22 +40,11 @@ same-length c = c .before .loop .inv .2
 returns : tie.Need-returns Inv-loop μ-loop
 returns c =
     let l = c .before .loop in
-    let a = c .before .before .before .before .args in
+    let a = at (tie.Start Inv-loop μ-loop) (search) .args in
     read-all (l .i) (now (a .from)) (now (a .ids)) (l .inv .3) (omega arith)
 
 pub read-ids-spec : {M : Type 1} → statement M
 read-ids-spec =
     tie.close
-    (tie.spec
-    Inv-loop
-    μ-loop
-    loop-holds
-    mul-read-little
-    read-little-requires
-    mul-ids
-    slice-write-ids
-    add-i
-    loop-less
-    loop-again
-    same-length
-    returns)
+    (tie.spec Inv-loop μ-loop loop-holds (search needs) (search needs) (search needs) (search needs) (search needs) (search needs)
+    loop-again same-length returns)

@@ -10,6 +10,7 @@ use Rattle.base_laws.specs.Lists.{laid}
 use Rattle.base_numbers.specs.Numbers.{littleEndian, inOctets}
 use Rattle.stored_settings_body.specs.Body.{idsOctets}
 use Rattle.stored_settings_body.proofs.Ids.{write-start, write-turn}
+use Rattle.base_laws.proofs.Places.{at}
 use borrow.Author.Needs.{needs}
 use Rattle.stored_settings_body_write.proofs.write_ids.Statement.{statement}
 use Rattle.stored_settings_body_write.proofs.write_ids.Tie as tie
@@ -21,40 +22,24 @@ abbrev μ-loop : tie.MeasureT-loop
 μ-loop into₀ at ids i₀ into i = length ids - i
 
 loop-holds : tie.Need-loop-holds Inv-loop μ-loop
-loop-holds c = (search needs, refl, write-start (c .before .before .args .at) (now (c .before .before .args .ids)) (now (c .before .before .args .into)))
-
-mul-write-little : tie.Need-mul-write-little Inv-loop μ-loop
-mul-write-little c = search needs
-
-add-write-little : tie.Need-add-write-little Inv-loop μ-loop
-add-write-little c = search needs
-
-mul-write-little-2 : tie.Need-mul-write-little-2 Inv-loop μ-loop
-mul-write-little-2 c = search needs
-
-shared-slice-read-write-little : tie.Need-shared-slice-read-write-little Inv-loop μ-loop
-shared-slice-read-write-little c = search needs
-
-write-little-requires : tie.Need-write-little-requires Inv-loop μ-loop
-write-little-requires c κs = search needs
-
-add-i : tie.Need-add-i Inv-loop μ-loop
-add-i c = search needs
-
-loop-less : tie.Need-loop-less Inv-loop μ-loop
-loop-less c = search needs
+loop-holds c = (
+  search needs,
+  refl,
+  write-start (at (tie.Start Inv-loop μ-loop) (search) .args .at)
+      (now (at (tie.Start Inv-loop μ-loop) (search) .args .ids)) (now (at (tie.Start Inv-loop μ-loop) (search) .args .into)),
+)
 
 loop-again : tie.Need-loop-again Inv-loop μ-loop
 loop-again c =
-    let l = c .before .before .before .before .before .before .loop in
-    let a = c .before .before .before .before .before .before .before .before .before .args in
+    let l = at (tie.At-loop Inv-loop μ-loop) (search) .loop in
+    let a = at (tie.Start Inv-loop μ-loop) (search) .args in
     let k = a .at + 2 * l .i in
     let id = getD (now (a .ids)) (l .i) 0 in (
       omega arith,
       search needs,
-      c .before .before .write-little .ensures
+      at (tie.After-write-little Inv-loop μ-loop) (search) .write-little .ensures
           ∙ ap (laid k (inOctets littleEndian 2 id)) (l .inv .2)
-          ∙ write-turn (a .at) (l .i) (now (a .ids)) (now (a .into)) (omega arith) (c .before .before .before .before .before .before .before .before .before .pre),
+          ∙ write-turn (a .at) (l .i) (now (a .ids)) (now (a .into)) (omega arith) (at (tie.Start Inv-loop μ-loop) (search) .pre),
     )
 
 same-length : tie.Need-same-length Inv-loop μ-loop
@@ -63,23 +48,11 @@ same-length c = c .before .loop .inv .1
 returns : tie.Need-returns Inv-loop μ-loop
 returns c =
     let l = c .before .loop in
-    let a = c .before .before .before .before .args in
+    let a = at (tie.Start Inv-loop μ-loop) (search) .args in
     l .inv .2 ∙ ap (λ (m : List ℕ). laid (a .at) (idsOctets m) (now (a .into))) (take-all (l .i) (now (a .ids)) (omega arith))
 
 pub write-ids-spec : {M : Type 1} → statement M
 write-ids-spec =
     tie.close
-    (tie.spec
-    Inv-loop
-    μ-loop
-    loop-holds
-    mul-write-little
-    add-write-little
-    mul-write-little-2
-    shared-slice-read-write-little
-    write-little-requires
-    add-i
-    loop-less
-    loop-again
-    same-length
-    returns)
+    (tie.spec Inv-loop μ-loop loop-holds (search needs) (search needs) (search needs) (search needs) (search needs) (search needs)
+    (search needs) loop-again same-length returns)

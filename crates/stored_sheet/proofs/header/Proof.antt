@@ -3,8 +3,6 @@ use borrow.Author.Needs.{needs}
 use Rattle.stored_sheet.proofs.header.Statement.{statement}
 use Rattle.stored_sheet.proofs.header.Tie as tie
 
-returns : tie.Need-returns
-returns c = search needs
-
 pub header-spec : {M : Type 1} → statement M
-header-spec = tie.close (tie.spec returns)
+header-spec = tie.close
+    (tie.spec (search needs))

@@ -6,42 +6,23 @@ use mir.Val.{toZ, ofZ}
 use mir.Facts.{toZ-pos}
 use native.Mathlib.Omega.{arith}
 use Rattle.stored_sheet_lines.proofs.Turns.{line-laid}
+use Rattle.base_laws.proofs.Places.{at}
 use borrow.Author.Needs.{needs}
 use Rattle.stored_sheet_lines.proofs.put_line.Statement.{statement}
 use Rattle.stored_sheet_lines.proofs.put_line.Tie as tie
 
-cast-put-number : tie.Need-cast-put-number
-cast-put-number c = search needs
-
-put-number-requires : tie.Need-put-number-requires
-put-number-requires c κs = search needs
-
-put-number-requires-2 : tie.Need-put-number-requires-2
-put-number-requires-2 c κs = search needs
-
-put-number-requires-3 : tie.Need-put-number-requires-3
-put-number-requires-3 c κs = search needs
-
-same-length : tie.Need-same-length
-same-length c = search needs
-
 returns : tie.Need-returns
-returns c = let three = c .before .before in
-    let two = three .before .before .before .before .before in
-    let one = two .before .before .before .before .before in
-    let s = one .before .before .before .before in
+returns c = let three = at tie.After-put-number3 (search) in
+    let two = at tie.After-put-number2 (search) in
+    let one = at tie.After-put-number (search) in
+    let s = at tie.Start (search) in
     let a = s .args in
     let near : toZ w64 (ofZ w64 (a .line .near)) ≡ a .line .near = search needs in
     let far : toZ w64 (ofZ w64 (a .line .far)) ≡ a .line .far = search needs in
-    line-laid (a .at) (a .line) (now (a .into)) (s .pre) (toZ-pos w64 (omega arith)) near far (one .put-number .ensures) (two .put-number2 .ensures) (three .put-number3 .ensures)
+    line-laid (a .at) (a .line) (now (a .into)) (s .pre) (toZ-pos w64 (omega arith)) near far (one .put-number .ensures)
+    (two .put-number2 .ensures) (three .put-number3 .ensures)
 
 pub put-line-spec : {M : Type 1} → statement M
 put-line-spec =
     tie.close
-    (tie.spec
-    cast-put-number
-    put-number-requires
-    put-number-requires-2
-    put-number-requires-3
-    same-length
-    returns)
+    (tie.spec (search needs) (search needs) (search needs) (search needs) (search needs) returns)

@@ -6,33 +6,33 @@ use mathlib.Core.Path.{_≡_}
 use mir.Syntax.{w64}
 use mir.Val.{SFits, toZ, ofZ}
 use Rattle.stored_sheet_lines.proofs.Turns.{number-within, number-marked, number-behind, number-most}
+use Rattle.base_laws.proofs.Places.{at}
 use borrow.Author.Needs.{needs}
 use Rattle.stored_sheet_lines.proofs.put_number.Statement.{statement}
 use Rattle.stored_sheet_lines.proofs.put_number.Tie as tie
 
-write-decimal-requires : tie.Need-write-decimal-requires
-write-decimal-requires c κs = search needs
-
 slice-write-into : tie.Need-slice-write-into
-slice-write-into c = let w = c .before .before in
-    let a = w .before .before .before .args in
+slice-write-into c = let w = at tie.After-write-decimal (search) in
+    let a = at tie.Start (search) .args in
     let fits : SFits w64 (a .value) = search needs in
     let back : toZ w64 (ofZ w64 (a .value)) ≡ a .value = search needs in
-    number-within (a .at) (a .mark) (a .value) (now (a .into)) (w .before .before .before .pre) fits back (w .write-decimal .ensures .0) (w .write-decimal .ensures .1)
+    number-within (a .at) (a .mark) (a .value) (now (a .into)) (at tie.Start (search) .pre) fits back (w .write-decimal .ensures .0)
+    (w .write-decimal .ensures .1)
 
 add-result : tie.Need-add-result
-add-result c = let w = c .before .before in
-    let a = w .before .before .before .args in
+add-result c = let w = at tie.After-write-decimal (search) in
+    let a = at tie.Start (search) .args in
     let fits : SFits w64 (a .value) = search needs in
     let back : toZ w64 (ofZ w64 (a .value)) ≡ a .value = search needs in
-    omega (arith, number-most (a .at) (a .mark) (a .value) (now (a .into)) (w .before .before .before .pre) fits back (w .write-decimal .ensures .0) (w .write-decimal .ensures .1))
-
-same-length : tie.Need-same-length
-same-length c = search needs
+    omega (
+      arith,
+      number-most (a .at) (a .mark) (a .value) (now (a .into)) (at tie.Start (search) .pre) fits back
+          (w .write-decimal .ensures .0) (w .write-decimal .ensures .1),
+    )
 
 returns : tie.Need-returns
-returns c = let w = c .before .before in
-    let s = w .before .before .before in
+returns c = let w = at tie.After-write-decimal (search) in
+    let s = at tie.Start (search) in
     let a = s .args in
     let fits : SFits w64 (a .value) = search needs in
     let back : toZ w64 (ofZ w64 (a .value)) ≡ a .value = search needs in
@@ -44,4 +44,5 @@ returns c = let w = c .before .before in
 
 pub put-number-spec : {M : Type 1} → statement M
 put-number-spec =
-    tie.close (tie.spec write-decimal-requires slice-write-into add-result same-length returns)
+    tie.close
+    (tie.spec (λ c. search needs) slice-write-into add-result (λ c. search needs) returns)

@@ -1,6 +1,7 @@
 -- `stored_sheet_lines::write_lines` meets its contract. The loop's invariant: the text of the records so far stands in the buffer, and the text of the rest is
 -- still to come. The measure is what is left to read.
 use native.Mathlib.Omega.{arith}
+use Rattle.base_laws.proofs.Places.{at}
 use borrow.Author.Needs.{needs}
 use denote.Ref.{now}
 use Prim.Native.Nat.{_+_, _*_, _-_, _≤_}
@@ -20,55 +21,38 @@ abbrev μ-loop : tie.MeasureT-loop
 μ-loop into₀ from i₀ at₀ into i at = length from - i
 
 returns : tie.Need-returns Inv-loop μ-loop
-returns c = let a = c .before .before .before .args in ends-no-room (now (a .from)) (now (a .into)) (omega arith)
+returns c = let a = at (tie.Start Inv-loop μ-loop) (search) .args in ends-no-room (now (a .from)) (now (a .into)) (omega arith)
 
 sub-if2 : tie.Need-sub-if2 Inv-loop μ-loop
 sub-if2 c = omega arith
 
 returns-2 : tie.Need-returns-2 Inv-loop μ-loop
-returns-2 c = let a = c .before .before .before .before .args in ends-no-room (now (a .from)) (now (a .into)) (omega arith)
+returns-2 c = let a = at (tie.Start Inv-loop μ-loop) (search) .args in ends-no-room (now (a .from)) (now (a .into)) (omega arith)
 
 loop-holds : tie.Need-loop-holds Inv-loop μ-loop
-loop-holds c = let a = c .before .before .before .before .args in (at-start (now (a .from)) (now (a .into)), omega arith)
-
-sub-put-next : tie.Need-sub-put-next Inv-loop μ-loop
-sub-put-next c = search needs
-
-part-put-next-start : tie.Need-part-put-next-start Inv-loop μ-loop
-part-put-next-start c = search needs
-
-part-put-next-end : tie.Need-part-put-next-end Inv-loop μ-loop
-part-put-next-end c = search needs
+loop-holds c = let a = at (tie.Start Inv-loop μ-loop) (search) .args in (at-start (now (a .from)) (now (a .into)), omega arith)
 
 put-next-requires : tie.Need-put-next-requires Inv-loop μ-loop
-put-next-requires c κs = let l = c .before .before .before .loop in
-    line-room (l .inv .0) (l .inv .1) (c .before .before .loop-test .taken)
-
-same-length : tie.Need-same-length Inv-loop μ-loop
-same-length c = search needs
+put-next-requires c κs = let l = at (tie.At-loop Inv-loop μ-loop) (search) .loop in
+    line-room (l .inv .0) (l .inv .1) (at (tie.In-loop Inv-loop μ-loop) (search) .loop-test .taken)
 
 returns-3 : tie.Need-returns-3 Inv-loop μ-loop
-returns-3 c = let p = c .before .before .before .before in
-    let l = p .before .before .before .before .loop in
-    let a = p .before .before .before .before .before .before .before .before .before .args in
+returns-3 c = let p = at (tie.After-put-next Inv-loop μ-loop) (search) in
+    let l = at (tie.At-loop Inv-loop μ-loop) (search) .loop in
+    let a = at (tie.Start Inv-loop μ-loop) (search) .args in
     let e = rw (part-rest (now (a .from)) (l .i)) at (p .put-next .ensures) in
-    turn-stops (l .inv .0) (l .inv .1) (p .before .before .before .loop-test .taken) (e .0) (e .1) (e .2) (not-true _ (c .if3 .taken))
-
-add-i : tie.Need-add-i Inv-loop μ-loop
-add-i c = search needs
-
-loop-less : tie.Need-loop-less Inv-loop μ-loop
-loop-less c = search needs
+    turn-stops (l .inv .0) (l .inv .1) (at (tie.In-loop Inv-loop μ-loop) (search) .loop-test .taken) (e .0) (e .1) (e .2)
+    (not-true _ (c .if3 .taken))
 
 loop-again : tie.Need-loop-again Inv-loop μ-loop
-loop-again c = let p = c .before .before .before .before in
-    let l = p .before .before .before .before .loop in
-    let a = p .before .before .before .before .before .before .before .before .before .args in
-    let e = rw (part-rest (now (a .from)) (l .i)) at (p .put-next .ensures) in
-    (turn-goes (l .inv .0) (l .inv .1) (p .before .before .before .loop-test .taken) (e .0) (e .1) (e .2) (not-false _ (c .if3 .left)), l .inv .1)
-
-same-length-2 : tie.Need-same-length-2 Inv-loop μ-loop
-same-length-2 c = search needs
+loop-again c = let p = at (tie.After-put-next Inv-loop μ-loop) (search) in
+    let l = at (tie.At-loop Inv-loop μ-loop) (search) .loop in
+    let a = at (tie.Start Inv-loop μ-loop) (search) .args in
+    let e = rw (part-rest (now (a .from)) (l .i)) at (p .put-next .ensures) in (
+      turn-goes (l .inv .0) (l .inv .1) (at (tie.In-loop Inv-loop μ-loop) (search) .loop-test .taken) (e .0) (e .1) (e .2)
+          (not-false _ (c .if3 .left)),
+      l .inv .1,
+    )
 
 returns-4 : tie.Need-returns-4 Inv-loop μ-loop
 returns-4 c = at-end (c .before .loop .inv .0) (c .before .loop .inv .1) (c .loop-test .left)
@@ -76,21 +60,5 @@ returns-4 c = at-end (c .before .loop .inv .0) (c .before .loop .inv .1) (c .loo
 pub write-lines-spec : {M : Type 1} → statement M
 write-lines-spec =
     tie.close
-    (tie.spec
-    Inv-loop
-    μ-loop
-    returns
-    sub-if2
-    returns-2
-    loop-holds
-    sub-put-next
-    part-put-next-start
-    part-put-next-end
-    put-next-requires
-    same-length
-    returns-3
-    add-i
-    loop-less
-    loop-again
-    same-length-2
-    returns-4)
+    (tie.spec Inv-loop μ-loop returns sub-if2 returns-2 loop-holds (search needs) (search needs) (search needs) put-next-requires
+    (search needs) returns-3 (search needs) (search needs) loop-again (search needs) returns-4)

@@ -41,8 +41,10 @@ returns-8 c = let r = c .match .rest in
     let code = c .before .args .code in
     none code
     (λ h.
-    let below : code ≤ 3 = le-of-le-suc-ne (le-of-le-suc-ne (le-of-le-suc-ne (le-of-le-suc-ne (h .1) (r .1)) (r .0 .1)) (r .0 .0 .1)) (r .0 .0 .0 .1) in
-    let none-left : code ≤ 0 = le-of-le-suc-ne (le-of-le-suc-ne (le-of-le-suc-ne below (r .0 .0 .0 .0 .1)) (r .0 .0 .0 .0 .0 .1)) (r .0 .0 .0 .0 .0 .0 .1) in
+    let below : code ≤ 3 = le-of-le-suc-ne (le-of-le-suc-ne (le-of-le-suc-ne (le-of-le-suc-ne (h .1) (r .1)) (r .0 .1)) (r .0 .0 .1))
+    (r .0 .0 .0 .1) in
+    let none-left : code ≤ 0 = le-of-le-suc-ne (le-of-le-suc-ne (le-of-le-suc-ne below (r .0 .0 .0 .0 .1)) (r .0 .0 .0 .0 .0 .1))
+    (r .0 .0 .0 .0 .0 .0 .1) in
     not-le-of-lt (h .0) none-left)
 
 pub from-code-spec : {M : Type 1} → statement M

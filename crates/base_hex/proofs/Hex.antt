@@ -1,5 +1,5 @@
 -- The statements of specs/Hex.antt, and the turns of the loop that writes. Assumes nothing.
-use Prim.Native.Nat.{ℕ, zero, suc, _+_, _-_, _*_, _/_, _%_, _≤_, _<_}
+use Prim.Native.Nat.{ℕ, suc, _+_, _-_, _*_, _/_, _%_, _≤_, _<_}
 use mathlib.Core.Path.{_≡_, refl, sym, ap, _∙_}
 use mathlib.Core.List.{List, [], _∷_, _++_, append-nil, append-assoc}
 use native.Mathlib.Omega.{arith}
@@ -10,7 +10,7 @@ use lib.Seq.{take-suc, length-take-le}
 use borrow.Author.Tests.{ltb-true, ltb-false, lt-ltb, le-ltb}
 use mathlib.Core.Logic.{⊎-elim}
 use Rattle.base_laws.specs.Lists.{laid}
-use Rattle.base_laws.proofs.Lists.{laid-none, laid-one, laid-more, laid-next}
+use Rattle.base_laws.proofs.Overlaid.{laid-none, laid-one, laid-more, laid-next}
 use Rattle.base_laws.proofs.Tests.{known}
 use Rattle.base_octets.specs.Octets.{Octets}
 use Rattle.base_hex.specs.Hex.{hexDigit, hexPair, hexPairs, hexText, digitValue, pairsValue, Hexes}

@@ -4,10 +4,11 @@ use mathlib.Core.Path.{_≡_, sym, ap, _∙_}
 use mathlib.Core.List.{List, _++_, append-assoc, append-nil}
 use mathlib.Core.Logic.{inl, inr}
 use native.Mathlib.Omega.{arith}
-use lib.ListN.{length, getD, take, drop, length-drop, drop-of-length-le}
+use lib.ListN.{length, take, drop, length-drop, drop-of-length-le}
 use lib.Seq.{length-take-le, take-append-le, drop-append-le, getD-drop, ext-getD}
 use Rattle.base_laws.specs.Lists.{part, laid}
-use Rattle.base_laws.proofs.Lists.{length-part, getD-part, part-drop, drop-part, part-behind, length-laid, laid-others}
+use Rattle.base_laws.proofs.Parts.{length-part, getD-part, part-drop, drop-part, part-behind}
+use Rattle.base_laws.proofs.Overlaid.{length-laid, laid-others}
 
 -- a part of the front is not changed by what stands behind it
 pub part-front : {A : Type 0} (at n : ℕ) (p q : List A) → at + n ≤ length p → part at n (p ++ q) ≡ part at n p

@@ -5,7 +5,7 @@ use mathlib.Core.List.{List, [], _∷_, _++_}
 use native.Mathlib.Omega.{arith}
 use lib.ListN.{length, set, length-append}
 use Rattle.base_laws.specs.Lists.{laid}
-use Rattle.base_laws.proofs.Lists.{laid-next, laid-one, length-laid}
+use Rattle.base_laws.proofs.Overlaid.{laid-next, laid-one, length-laid}
 
 -- x is l with the n elements xs laid over it from `at` on
 pub record Has {A : Type 0} (at n : ℕ) (xs l x : List A) : Type 0 where

@@ -1,14 +1,27 @@
--- The statements of specs/Tests.antt, and the two cases of a Bool. Assumes nothing.
-use mathlib.Core.Path.{_≡_, refl, ap, _∙_}
+-- The statements of specs/Tests.antt, the two cases of a Bool, and two numbers that differ. Assumes nothing.
+use Prim.Native.Nat.{ℕ, suc, _+_}
+use mathlib.Core.Path.{_≡_, refl, sym, ap, _∙_}
 use mathlib.Core.Bool.{Bool, true, false, cond, _&&_, _||_, false≢true}
-use mathlib.Core.List.{List, [], _∷_, _++_, map}
+use mathlib.Core.List.{List, [], _∷_, map}
 use mathlib.Core.Logic.{_↔_, _⊎_, inl, inr, ⊎-elim}
+use native.Mathlib.Omega.{arith}
 use Rattle.base_laws.specs.Tests.{choose, Chains}
 
 -- a test holds or it does not
 pub known : (b : Bool) → (b ≡ true) ⊎ (b ≡ false)
 known true = inl refl
 known false = inr refl
+
+-- a test that tells whether P fails where P does not hold, and where it fails P does not hold
+pub fails : {P : Type 0} {b : Bool} → (b ≡ true) ↔ P → (P → ⊥) → b ≡ false
+fails {b = b} tells n = ⊎-elim (λ t. absurd (n (tells .0 t))) (λ f. f) (known b)
+
+pub failed : {P : Type 0} {b : Bool} → (b ≡ true) ↔ P → b ≡ false → P → ⊥
+failed tells f p = false≢true (sym f ∙ tells .1 p)
+
+-- two numbers, one of them greater, are not one
+pub differ : (n m k : ℕ) → n ≡ m → n ≡ m + suc k → ⊥
+differ n m k e f = omega arith
 
 pub both-true : (a b : Bool) → ((a && b) ≡ true) ↔ ((a ≡ true) × (b ≡ true))
 both-true true b = (λ h. (refl, h), λ h. h .1)

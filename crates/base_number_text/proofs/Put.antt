@@ -7,7 +7,7 @@ use native.Mathlib.Omega.{arith}
 use lib.ListN.{length, getD, set, length-append}
 use borrow.Author.Tests.{le-leb, lt-leb, leb-true, leb-false}
 use Rattle.base_laws.specs.Lists.{part, laid}
-use Rattle.base_laws.proofs.Lists.{laid-back, length-laid, laid-others, laid-append, laid-before}
+use Rattle.base_laws.proofs.Overlaid.{laid-back, length-laid, laid-others, laid-append, laid-before}
 use Rattle.base_laws.proofs.Tests.{known}
 use Rattle.base_number_text.specs.Put.{fits, putAt, behind, Puts}
 

@@ -10,10 +10,10 @@ use lib.Dec.{ltb, eqb}
 use lib.ListN.{length, set, length-set}
 use borrow.Author.Tests.{ltb-true, ltb-false, eqb-true, eqb-false}
 use Rattle.base_laws.specs.Lists.{laid}
-use Rattle.base_laws.proofs.Lists.{laid-none, laid-before}
+use Rattle.base_laws.proofs.Overlaid.{laid-none, laid-before}
 use Rattle.base_laws.proofs.Tests.{known}
 use Rattle.base_number_text.specs.Decimal.{digit, digitsOf}
-use Rattle.base_number_text.proofs.Decimal.{is, counted-length, lastDigits, length-last, last-text}
+use Rattle.base_number_text.proofs.Digits.{is, counted-length, lastDigits, length-last, last-text}
 
 -- ── digits counted ──
 

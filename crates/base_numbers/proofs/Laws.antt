@@ -8,7 +8,8 @@ use native.Mathlib.Numerals.{add-one}
 use native.Mathlib.Omega.{arith}
 use lib.ListN.{length, getD, length-reverse}
 use Rattle.base_laws.specs.Lists.{part, laid}
-use Rattle.base_laws.proofs.Lists.{part-here, length-part, laid-back, laid-others}
+use Rattle.base_laws.proofs.Parts.{part-among, length-part}
+use Rattle.base_laws.proofs.Overlaid.{laid-back, laid-others}
 use Rattle.base_octets.specs.Octets.{Octets}
 use Rattle.base_octets.proofs.Octets.{reverse-octets, part-octets}
 use Rattle.base_numbers.specs.Numbers.{Order, littleEndian, bigEndian, numberLowestFirst, octetsLowestFirst}
@@ -46,9 +47,13 @@ octets-again bigEndian xs h =
 
 -- ── numbers at a place ──
 
--- the number that stands behind p, which is `at` octets long
+-- the number that stands behind p, which is `at` octets long, in a list that is so put together
+pub number-among : {all : List ℕ} (o : Order) (n v : ℕ) (p q : List ℕ) (at : ℕ) → all ≡ p ++ inOctets o n v ++ q → length p ≡ at → v < 256 ^ n
+    → number o (part at n all) ≡ v
+number-among o n v p q at e l small = ap (number o) (part-among p (inOctets o n v) q at n e l (length-octets o n v)) ∙ number-back o n v small
+
 pub number-here : (o : Order) (n v : ℕ) (p q : List ℕ) (at : ℕ) → length p ≡ at → v < 256 ^ n → number o (part at n (p ++ inOctets o n v ++ q)) ≡ v
-number-here o n v p q at l small = ap (number o) (part-here p (inOctets o n v) q at n l (length-octets o n v)) ∙ number-back o n v small
+number-here o n v p q at l small = number-among o n v p q at refl l small
 
 module _ (o : Order) (n at v : ℕ) (s : List ℕ) (fits : at + n ≤ length s) where
   room : at + length (inOctets o n v) ≤ length s

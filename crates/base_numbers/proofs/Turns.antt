@@ -12,7 +12,8 @@ use lib.ListN.{length, getD, set}
 use mir.Syntax.{w8}
 use mir.Val.{Fits}
 use Rattle.base_laws.specs.Lists.{part, laid}
-use Rattle.base_laws.proofs.Lists.{part-append, part-cons, part-none, laid-none, laid-more, laid-before}
+use Rattle.base_laws.proofs.Parts.{part-append, part-cons, part-none}
+use Rattle.base_laws.proofs.Overlaid.{laid-none, laid-more, laid-before}
 use Rattle.base_numbers.specs.Numbers.{Order, littleEndian, bigEndian, number, numberLowestFirst, octetsLowestFirst, inOctets}
 use Rattle.base_numbers.proofs.Laws.{big-more, little-more, little-next, big-next, length-octets, divided}
 

@@ -7,7 +7,7 @@ use native.Mathlib.Omega.{arith}
 use lib.ListN.{length, getD, set, take}
 use lib.Seq.{length-take-le, take-suc}
 use Rattle.base_laws.specs.Lists.{laid}
-use Rattle.base_laws.proofs.Lists.{laid-more}
+use Rattle.base_laws.proofs.Overlaid.{laid-more}
 
 -- a copy: i octets are laid, and one more
 pub copy-turn : (at i : ℕ) (from s : List ℕ) → i < length from → at + i < length s

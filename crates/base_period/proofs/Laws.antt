@@ -8,7 +8,7 @@ use lib.Dec.{eqb, leb}
 use lib.ListN.{drop, List·getD-eq-default}
 use borrow.Author.Tests.{eqb-true, leb-true, leb-false}
 use Rattle.base_laws.specs.Lists.{every, everyPair}
-use Rattle.base_laws.proofs.Lists.{pair-anywhere, every-anywhere, every-is}
+use Rattle.base_laws.proofs.Everywhere.{pair-anywhere, every-anywhere, every-is}
 use Rattle.base_laws.proofs.Tests.{known}
 use Rattle.base_period.specs.Periods.{ticksTable, holdTable, ticksOf, holdOf, rowOf, periodOf, PeriodLaws}
 

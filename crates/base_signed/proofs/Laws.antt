@@ -9,7 +9,7 @@ use mir.Syntax.{w64}
 use mir.Val.{Fits, SFits, toZ, ofZ}
 use mir.Facts.{toZ-ofZ, ofZ-toZ, fits-ofZ, fits-lt-pow}
 use Rattle.base_laws.specs.Lists.{part, laid}
-use Rattle.base_laws.proofs.Lists.{part-append, length-part}
+use Rattle.base_laws.proofs.Parts.{part-append, length-part}
 use Rattle.base_octets.specs.Octets.{Octets}
 use Rattle.base_octets.proofs.Octets.{part-octets}
 use Rattle.base_numbers.specs.Numbers.{littleEndian, number, numberLowestFirst, inOctets}

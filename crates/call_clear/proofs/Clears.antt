@@ -7,7 +7,7 @@ use mathlib.Core.Logic.{⊎-elim}
 use borrow.Author.Tests.{not-true, not-false, eqb-false}
 use Rattle.base_laws.specs.Ended.{Ended, ended}
 use Rattle.base_laws.proofs.Ended.{answer-is, state-is}
-use Rattle.base_laws.proofs.Tests.{known}
+use Rattle.base_laws.proofs.Tests.{known, fails}
 use Rattle.loss_session.specs.declared.LossSession.{LossSession}
 use Rattle.loss_session.specs.Session.{clearedSession}
 use Rattle.loss_session.proofs.Laws.{cleared-well}
@@ -54,7 +54,7 @@ module _ (s : State) where
   well w = at-cleared (well-formed-is .well-formed-is s .1 w)
 
   not-well : (WellFormed s → ⊥) → clearOf s ≡ ended NotWellFormed s []
-  not-well n = at-2 (⊎-elim (λ t. absurd (n (well-formed-is .well-formed-is s .0 t))) (λ f. f) (known (wellFormed s)))
+  not-well n = at-2 (fails (well-formed-is .well-formed-is s) n)
 
   stays : WellFormed s → WellFormed (clearOf s .state)
   stays w = rw (well w) (session-put s clearedSession cleared-well w)

@@ -1,16 +1,15 @@
 -- The statement of specs/Conditions.antt: what each flag means. Assumes nothing.
 use Prim.Native.Nat.{ℕ, _<_}
-use mathlib.Core.Path.{_≡_, refl, sym, ap, _∙_}
-use mathlib.Core.Bool.{Bool, true, false, _&&_, false≢true}
-use mathlib.Core.Logic.{⊎-elim}
+use mathlib.Core.Path.{_≡_, sym, ap, _∙_}
+use mathlib.Core.Bool.{_&&_}
 use native.Mathlib.Omega.{arith}
 use lib.Dec.{ltb, eqb}
 use lib.ListN.{getD}
 use borrow.Author.Tests.{ltb-true, lt-ltb, eqb-true, eq-eqb}
-use Rattle.base_laws.proofs.Tests.{known, split, join}
+use Rattle.base_laws.proofs.Tests.{fails, split, join}
 use Rattle.state_settings.specs.Settings.{slots}
 use Rattle.state_view.specs.State.{State}
-use Rattle.state_view.specs.WellFormed.{WellFormed, wellFormed}
+use Rattle.state_view.specs.WellFormed.{WellFormed}
 use Rattle.state_view.proofs.Rules.{well-formed-is}
 use Rattle.state_standing.specs.Standing.{runs}
 use Rattle.state_standing.specs.Flag.{flag, Shows}
@@ -37,12 +36,9 @@ module _ (s : State) where
   unfolding conditionsOf
   answers w = rw (well-formed-is .well-formed-is s .1 w)
 
-  not-well : (WellFormed s → ⊥) → wellFormed s ≡ false
-  not-well n = ⊎-elim (λ t. absurd (n (well-formed-is .well-formed-is s .0 t))) (λ f. f) (known (wellFormed s))
-
   zeros : (WellFormed s → ⊥) → conditionsOf s ≡ answered 2 noConditions
   unfolding conditionsOf
-  zeros n = rw (not-well n)
+  zeros n = rw (fails (well-formed-is .well-formed-is s) n)
 
   refused : conditionsOf s .refusal ≡ 2 → WellFormed s → ⊥
   refused e w =

@@ -11,7 +11,7 @@ use lib.Seq.{getD-at}
 use borrow.Author.Tests.{ltb-true, ltb-false}
 use Rattle.base_laws.specs.Lists.{laid}
 use Rattle.base_laws.proofs.Tests.{known}
-use Rattle.base_laws.proofs.Lists.{laid-more, laid-none}
+use Rattle.base_laws.proofs.Overlaid.{laid-more, laid-none}
 use Rattle.call_conditions.specs.Conditions.{table}
 
 module _ (f : ℕ → ℕ) where

@@ -6,7 +6,7 @@ use mathlib.Core.List.{List, [], _∷_}
 use native.Mathlib.Omega.{arith}
 use lib.ListN.{getD, replicate}
 use Rattle.base_laws.specs.Lists.{onFirst}
-use Rattle.base_laws.proofs.Loops.{changes}
+use Rattle.base_laws.proofs.OnFirst.{changes}
 use Rattle.base_period.specs.Periods.{holdOf}
 use Rattle.base_period.proofs.Laws.{period-laws}
 use Rattle.state_settings.specs.Settings.{slots, Settings, settingsOf}

@@ -1,3 +1,5 @@
 pub mod Ended
+pub mod TickedWell
+pub mod TickCases
 pub mod Ticks
 pub mod One

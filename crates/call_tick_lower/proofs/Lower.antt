@@ -5,7 +5,7 @@ use mathlib.Core.List.{List, map}
 use lib.IntN.{ℤ}
 use lib.ListN.{length, getD, set, length-set}
 use Rattle.base_laws.specs.Lists.{onFirst}
-use Rattle.base_laws.proofs.Loops.{onFirst-at, onFirst-next, onFirst-length}
+use Rattle.base_laws.proofs.OnFirst.{onFirst-at, onFirst-next, onFirst-length}
 use Rattle.state_view.specs.State.{viewOf, runWords}
 use Rattle.state_view.specs.Changed.{next, put, lowered}
 use Rattle.state_places.proofs.Stores.{stores}

@@ -1,3 +1,4 @@
+pub mod GoodTests
 pub mod Goods
 pub mod Numbers
 pub mod Shape

@@ -4,7 +4,6 @@ use mathlib.Core.Path.{_≡_, refl, sym, ap, _∙_}
 use mathlib.Core.Bool.{Bool, true, false, not}
 use mathlib.Core.List.{List, [], _∷_}
 use mathlib.Core.Logic.{⊎-elim}
-use lib.Dec.{eqb}
 use borrow.Author.Tests.{not-true}
 use Rattle.base_laws.specs.Tests.{choose}
 use Rattle.base_laws.proofs.Tests.{known as if-known}
@@ -22,7 +21,7 @@ use Rattle.frame_message_answer.specs.declared.MessageAnswer.{MessageAnswer}
 use Rattle.frame_message_answer.specs.declared.MessageTold.{MessageTold}
 use Rattle.frame_message.specs.Good.{Good, isBad}
 use Rattle.frame_message.specs.Message.{periodCode, codeGood, judgedOf, unlessBad, messageOf}
-use Rattle.frame_message_answer.specs.Told.{numbers, told}
+use Rattle.frame_message_answer.specs.Told.{told}
 use Rattle.frame_message.specs.Told.{isGood, behind, numbersOf, goodOpcode, MessageNumbers}
 use Rattle.frame_message.proofs.Goods.{good-frames}
 

@@ -7,11 +7,11 @@ use native.Mathlib.Omega.{arith}
 use lib.ListN.{length, drop, length-append}
 use lib.Seq.{drop-at}
 use Rattle.base_laws.specs.Lists.{part}
-use Rattle.base_laws.proofs.Lists.{part-here}
+use Rattle.base_laws.proofs.Parts.{part-here}
 use Rattle.base_numbers.specs.Numbers.{number, numberLowestFirst, bigEndian}
 use Rattle.frame_opcodes.specs.Opcodes.{ruleOf}
 use Rattle.frame_head.specs.Head.{etherTypeOf, pduOf, opcodeOf, offsetOf}
-use Rattle.frame_message.specs.Good.{Headed, tlvsOf}
+use Rattle.frame_message.specs.Good.{Headed}
 
 -- addresses, 89-02, and the PDU
 abbrev pub framed : List ℕ → List ℕ → List ℕ

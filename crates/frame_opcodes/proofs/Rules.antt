@@ -10,7 +10,8 @@ use lib.ListN.{getD}
 use borrow.Author.Tests.{ne-eqb, ltb-true, ltb-false}
 use Rattle.base_laws.specs.Tests.{choose}
 use Rattle.base_laws.specs.Lists.{every, everyBelow, absent}
-use Rattle.base_laws.proofs.Lists.{every-is, absent-is, below-is}
+use Rattle.base_laws.proofs.Everywhere.{every-is, below-is}
+use Rattle.base_laws.proofs.Meanings.{absent-is}
 use Rattle.base_laws.proofs.Tests.{known as if-known}
 use Rattle.frame_opcodes.specs.declared.Rule.{Rule}
 use Rattle.frame_opcodes.specs.Opcodes.{noRule, ruleOf, OpcodeLists}

@@ -10,7 +10,7 @@ use lib.ListN.{length, drop, length-drop}
 use Rattle.base_laws.specs.Tests.{choose}
 use Rattle.base_laws.specs.Lists.{part}
 use Rattle.base_laws.proofs.Tests.{known}
-use Rattle.base_laws.proofs.Lists.{part-drop}
+use Rattle.base_laws.proofs.Parts.{part-drop}
 use Rattle.frame_reader_answer.specs.declared.Bad.{Bad}
 use Rattle.frame_tlvs.specs.declared.Place.{Place}
 use Rattle.frame_tlvs.specs.declared.Place.the-variants.{End, Found, Cut}

@@ -1,3 +1,4 @@
 pub mod Steps
+pub mod WalkedOver
 pub mod Agrees
 pub mod One

@@ -11,7 +11,7 @@ use lib.Dec.{ltb, eqb}
 use lib.ListN.{length, drop, getD, length-drop, drop-of-length-le}
 use lib.Seq.{drop-cons, drop-drop}
 use Rattle.base_laws.specs.Lists.{part}
-use Rattle.base_laws.proofs.Lists.{part-drop}
+use Rattle.base_laws.proofs.Parts.{part-drop}
 use Rattle.base_numbers.specs.Numbers.{number, bigEndian}
 use Rattle.frame_tlvs.specs.declared.Place.the-variants.{End, Found, Cut}
 use Rattle.frame_tlvs.specs.Tlvs.{lengthOf, walk, walkFrom}

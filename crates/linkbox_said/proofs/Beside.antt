@@ -1,5 +1,5 @@
--- The statement of specs/Shipped.antt on the calls beside a box: each contract gives what our definitions say, and these follow the paper. Assumes
--- nothing.
+-- The statement of specs/Shipped.antt on the calls beside a box: each contract gives what our definitions say, and these follow the paper.
+-- Assumes nothing.
 use mathlib.Core.Path.{_≡_, refl, sym, ap, ap₂, subst, _∙_}
 use mathlib.Core.Bool.{true, false}
 use mathlib.Core.Logic.{⊎-elim}
@@ -13,7 +13,7 @@ use mathlib.Core.List.{List, []}
 use Prim.Native.Nat.{ℕ}
 use denote.Ref.{now}
 use Rattle.stored_settings_body.specs.declared.SettingsRead.{SettingsRead}
-use Rattle.stored_line.proofs.Calls.{loss-records}
+use Rattle.stored_line.proofs.LineRecords.{loss-records}
 use Rattle.stored_settings.specs.SettingsRecord.{bodySize, settingsAt, refusedRead, readSettings, writeSettings}
 use Rattle.stored_record.specs.Record.{isRecord}
 use Rattle.stored_record.specs.declared.RecordAnswer.{RecordAnswer}

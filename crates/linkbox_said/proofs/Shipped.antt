@@ -1,4 +1,5 @@
--- The statement of specs/Shipped.antt on the calls on a box. One law for all: what tells the outcome of our box tells the paper's. Assumes nothing.
+-- The statement of specs/Shipped.antt on the calls on a box. One law for all: what tells the outcome of our box tells the paper's.
+-- Assumes nothing.
 use Prim.Native.Nat.{ℕ}
 use mathlib.Core.Path.{_≡_, refl, sym, ap, ap₂, subst, _∙_}
 use mathlib.Core.Bool.{Bool, true, false, cond}
@@ -12,14 +13,12 @@ use Rattle.receive_answer.specs.Told.{told}
 use Rattle.base_laws.proofs.Tests.{known}
 use denote.Ref.{now}
 use Rattle.state_settings.specs.Settings.{Settings, settingsOf}
-use Rattle.base_stamp.specs.declared.Stamp.{Stamp}
 use Rattle.state_view.specs.State.{State, shown}
+use Rattle.state_view.specs.Arguments.{behind}
 use Rattle.state_view.specs.WellFormed.{wellFormed}
 use Rattle.receive_answer.specs.declared.FrameTold.{FrameTold}
 use Rattle.receive_class.specs.declared.Side.{Side}
 use Rattle.receive_class.specs.declared.Side.the-variants as side
-use Rattle.call_clear.specs.declared.ClearTold.{ClearTold}
-use Rattle.call_clear.proofs.Clears.{clears}
 use Rattle.call_conditions.specs.declared.ConditionsTold.{ConditionsTold}
 use Rattle.call_conditions.specs.Conditions.{noConditions, conditionsOf}
 use Rattle.call_setting.specs.Start.{afterSetting, answerOf, numbersOf as numbers}
@@ -27,12 +26,8 @@ use Rattle.call_setting.proofs.Starts.{starts}
 use Rattle.call_setting.specs.declared.SettingTold.{SettingTold}
 use Rattle.call_setting.specs.Told as Setting
 use Rattle.message_parts.specs.declared.parts.WrittenTold.{WrittenTold}
-use Rattle.call_tick.proofs.Ticks.{ticks}
-use Rattle.call_send_lmm.proofs.Lmm.{sends-lmm}
-use Rattle.call_send_dmm.proofs.Dmm.{sends-dmm}
 use Rattle.receive_frame.specs.Frame.{frameOf}
 use Rattle.receive_frame.specs.Numbers.{numbersOf}
-use Rattle.receive_frame.proofs.Numbers.{frames-told}
 use Rattle.linkbox_frame.specs.Sides as C
 use Rattle.linkbox_state.specs.declared.NewBox.{NewBox}
 use Rattle.linkbox_state.specs.NewBox.{newBox}
@@ -47,7 +42,7 @@ use Rattle.paper_said.specs.Told.{Numbers, counted, frameNumbers}
 use Rattle.paper_said.proofs.Told.{told-alike}
 use Rattle.paper_said.proofs.Tied.{from-arrays, taken-over}
 use Rattle.linkbox_said.specs.Heard.{plainSays, frameSays, tickSays, sendSays}
-use Rattle.linkbox_said.specs.Lying.{stateIn, behind, sideBy}
+use Rattle.linkbox_said.specs.Lying.{stateIn, sideBy, arrivalIn}
 use Rattle.linkbox_said.specs.Shipped.{Tells, Shipped}
 use Rattle.linkbox_said.proofs.Heard.{setting-says, clear-says, frame-says, tick-says, lmm-says, dmm-says}
 use Rattle.receive_answer.specs.declared.FrameAnswer.{FrameAnswer}
@@ -63,22 +58,21 @@ side-is : (b : Bool) → sideOf (cond b call.active call.passive) ≡ cond b sid
 side-is true = refl
 side-is false = refl
 
-module _ (s : State) (n : ℕ) (f : List ℕ) (receive transmit : Stamp) (buffer : List ℕ) where
-  abbrev arrival : Arrival
-  arrival = record { side = sideBy n; octets = f; receive = receive; transmit = transmit; buffer = buffer }
-
+module _ (s : State) (n : ℕ) (x : Arrival) (by : x .side ≡ sideBy n) where
   abbrev from : Side → Ended State FrameAnswer
-  from d = frameOf s d f receive transmit buffer
+  from d = frameOf s d (x .octets) (x .receive) (x .transmit) (x .buffer)
 
   frame-tells : (r : FrameTold) (z : State) (b : List ℕ) → ended r z b ≡ toldBy told (from (C.sideOf n))
-      → Tells (frameSays r) (frameNumbers r) z b call.nothing (ours s (call.frame arrival))
+      → Tells (frameSays r) (frameNumbers r) z b call.nothing (ours s (call.frame x))
   frame-tells r z b e =
-      let d : C.sideOf n ≡ sideOf (sideBy n) = sym (side-is (eqb n 0)) in
+      let d : C.sideOf n ≡ sideOf (x .side) = sym (ap sideOf by ∙ side-is (eqb n 0)) in
       record {
-        answer = ap frameSays (answer-is e) ∙ frame-says _ ∙ ap (λ (x : Side). frameAnswer (from x .answer)) d;
-        numbers = ap frameNumbers (answer-is e) ∙ told-alike .frame (from (C.sideOf n) .answer) ∙ ap (λ (x : Side). Told.numbersOf (frameAnswer (from x .answer))) d;
-        state = state-is e ∙ ap (λ (x : Side). from x .state) d;
-        buffer = buffer-is e ∙ ap (λ (x : Side). from x .buffer) d;
+        answer = ap frameSays (answer-is e) ∙ frame-says _ ∙ ap (λ (y : Side). frameAnswer (from y .answer)) d;
+        numbers = ap frameNumbers (answer-is e)
+            ∙ told-alike .frame (from (C.sideOf n) .answer)
+            ∙ ap (λ (y : Side). Told.numbersOf (frameAnswer (from y .answer))) d;
+        state = state-is e ∙ ap (λ (y : Side). from y .state) d;
+        buffer = buffer-is e ∙ ap (λ (y : Side). from y .buffer) d;
         out = refl;
       }
 
@@ -97,8 +91,8 @@ module _ (words names ids : List ℕ) (before : State) (r : NewBox) (e : r ≡ n
   out-is : shown (r .state) ≡ afterSetting t
   out-is = ap (λ (x : NewBox). shown (x .state)) e ∙ starts .hands-out words names ids
 
-  setting-tells : Tells (plainSays (r .refusal)) (counted (r .refusal) 0 0) (takenOver before (r .refusal) (shown (r .state))) [] (call.a-state (shown (r .state)))
-      (ours before (call.new-setting t))
+  setting-tells : Tells (plainSays (r .refusal)) (counted (r .refusal) 0 0) (takenOver before (r .refusal) (shown (r .state))) []
+      (call.a-state (shown (r .state))) (ours before (call.new-setting t))
   setting-tells = record {
     answer = ap plainSays refusal-is ∙ setting-says (answerOf t);
     numbers = ap (λ (n : ℕ). counted n 0 0) refusal-is ∙ told-alike .setting (answerOf t);
@@ -131,9 +125,9 @@ shipped = record {
   new-setting = λ κs a r s p w before o q.
       tied before _ o (from-arrays (now (a .0)) (now (a .1 .0)) (now (a .1 .1 .0)) (p .1) w) q (setting-tells _ _ _ before r (p .0));
   frame = λ κs a r s p w o q.
-      let x = behind a in
-      tied _ _ o (record { octets = w; receive = p .1 .1 .0; transmit = p .1 .1 .1 }) q
-      (frame-tells (stateIn a) (x .0) (now (x .1 .0)) (x .1 .1 .0) (x .1 .1 .1 .0) (now (x .1 .1 .1 .1 .0)) r _ _ (p .0));
+      let (is, (_, (receive, transmit))) = p in
+      tied _ _ o (record { octets = w; receive = receive; transmit = transmit }) q
+      (frame-tells (stateIn a) (behind a .0) (arrivalIn (behind a)) refl r _ _ is);
   tick = λ κs a r s p o q.
       let e = p .0 in
       tied _ _ o tt q (record {

@@ -3,33 +3,25 @@ use Prim.Native.Nat.{ℕ}
 use mathlib.Core.Bool.{cond}
 use mathlib.Core.List.{List}
 use lib.Dec.{eqb}
-use lib.IntN.{ℤ}
 use denote.Ref.{RefT, now}
-use Rattle.state_view.specs.State.{State, lying}
+use Rattle.state_view.specs.State.{State, shown}
+use Rattle.state_view.specs.Arguments.{Arrays, held, left, leftTick, leftSession}
 use Rattle.base_stamp.specs.declared.Stamp.{Stamp}
 use Rattle.paper_said.specs.Calls.{Side, active, passive, Arrival}
 
--- seven arrays, and X behind them
-abbrev pub Arrays : Type 0 → Type 0
-Arrays X = RefT (List ℕ) × (RefT (List ℕ) × (RefT (List ℕ) × (RefT (List ℕ) × (RefT (List ℕ) × (RefT (List ℕ) × (RefT (List ℤ) × X))))))
-
--- the state that lies in them
+-- the state that lies in a call's arguments
 abbrev pub stateIn : {X : Type 0} → Arrays X → State
-stateIn a = lying (a .0) (a .1 .0) (a .1 .1 .0) (a .1 .1 .1 .0) (a .1 .1 .1 .1 .0) (a .1 .1 .1 .1 .1 .0) (a .1 .1 .1 .1 .1 .1 .0)
+stateIn a = shown (held a)
 
 -- and those that lie there after a frame, a tick and a clear, each of which may write some of the arrays: a before, s afterwards
 abbrev pub leftByFrame : {X Y : Type 0} → Arrays X → Arrays Y → State
-leftByFrame a s = lying (a .0) (a .1 .0) (a .1 .1 .0) (s .1 .1 .1 .0) (s .1 .1 .1 .1 .0) (s .1 .1 .1 .1 .1 .0) (s .1 .1 .1 .1 .1 .1 .0)
+leftByFrame a s = shown (left a s)
 
 abbrev pub leftByTick : {X Y : Type 0} → Arrays X → Arrays Y → State
-leftByTick a s = lying (a .0) (a .1 .0) (a .1 .1 .0) (s .1 .1 .1 .0) (a .1 .1 .1 .1 .0) (s .1 .1 .1 .1 .1 .0) (a .1 .1 .1 .1 .1 .1 .0)
+leftByTick a s = shown (leftTick a s)
 
 abbrev pub leftByClear : {X Y : Type 0} → Arrays X → Arrays Y → State
-leftByClear a s = lying (a .0) (a .1 .0) (a .1 .1 .0) (a .1 .1 .1 .0) (a .1 .1 .1 .1 .0) (s .1 .1 .1 .1 .1 .0) (s .1 .1 .1 .1 .1 .1 .0)
-
--- what stands behind them
-abbrev pub behind : {X : Type 0} → Arrays X → X
-behind a = a .1 .1 .1 .1 .1 .1 .1
+leftByClear a s = shown (leftSession a s)
 
 -- C names a side by a number: 0 is the active side, any other the passive one
 abbrev pub sideBy : ℕ → Side
@@ -37,10 +29,6 @@ sideBy n = cond (eqb n 0) active passive
 
 -- a frame as it is handed over behind the arrays: its side, its octets, two stamps, the buffer
 abbrev pub arrivalIn : {X : Type 0} → ℕ × (RefT (List ℕ) × (Stamp × (Stamp × (RefT (List ℕ) × X)))) → Arrival
-arrivalIn a = record {
-  side = sideBy (a .0);
-  octets = now (a .1 .0);
-  receive = a .1 .1 .0;
-  transmit = a .1 .1 .1 .0;
-  buffer = now (a .1 .1 .1 .1 .0);
-}
+arrivalIn a =
+    let (side, (octets, (receive, (transmit, (buffer, _))))) = a in
+    record { side = sideBy side; octets = now octets; receive = receive; transmit = transmit; buffer = now buffer }

@@ -9,6 +9,7 @@ use Rattle.state_settings.specs.Settings.{settingsOf}
 use Rattle.loss_lent.specs.Lent.{Lent}
 use Rattle.loss_lent.specs.Said.{FollowsLent}
 use Rattle.state_view.specs.State.{State, shown}
+use Rattle.state_view.specs.Arguments.{behind}
 use Rattle.call_conditions.specs.Conditions.{noConditions}
 use Rattle.stored_settings.specs.SettingsRecord.{refusedRead}
 use Rattle.paper_said.specs.Calls as call
@@ -32,7 +33,7 @@ use Rattle.linkbox_records.proofs.linkbox_read_line.Reads as read-line
 use Rattle.linkbox_records.proofs.linkbox_write_line.Reads as write-line
 use Rattle.linkbox_reader.proofs.linkbox_tlv.Reads as tlv
 use Rattle.linkbox_said.specs.Heard.{plainSays, frameSays, tickSays, sendSays, settingsSays, writeSays, lineSays, tlvSays, writeNumbers, lineNumbers, tlvNumbers}
-use Rattle.linkbox_said.specs.Lying.{stateIn, leftByFrame, leftByTick, leftByClear, behind, arrivalIn}
+use Rattle.linkbox_said.specs.Lying.{stateIn, leftByFrame, leftByTick, leftByClear, arrivalIn}
 
 -- the answer that C reads from its numbers is the paper's, and the numbers are those of that answer, all others 0; the state that lies with
 -- C then, its buffer, and what it is handed out are the paper's too

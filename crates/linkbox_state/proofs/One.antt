@@ -1,9 +1,8 @@
--- Two outcomes that a contract allows are equal: one answer in numbers, and one content of each array. Stated over `Reads.Post`, which the check reads off
--- the source's own clauses. Assumes nothing.
+-- Two outcomes that a contract allows are equal: one answer in numbers, and one content of each array. Stated over `Reads.Post`, which the
+-- check reads off the source's own clauses. Assumes nothing.
 use mathlib.Core.Path.{_≡_, sym, _∙_}
-use denote.Ref.{now}
-use Rattle.base_laws.proofs.Ended.{answer-is, state-is}
-use Rattle.state_places.proofs.Stores.{stores}
+use Rattle.state_view.specs.Arguments.{held, leftSession}
+use Rattle.state_places.proofs.Stores.{ends-once}
 use Rattle.linkbox_state.proofs.linkbox_new_setting.Reads as new-setting
 use Rattle.linkbox_state.proofs.linkbox_clear.Reads as clear
 use Rattle.linkbox_state.proofs.linkbox_conditions.Reads as conditions
@@ -12,14 +11,10 @@ pub linkbox-new-setting-one : (κs : _) (a : _) (r r′ : _) (s s′ : _) → ne
 linkbox-new-setting-one κs a r r′ s s′ p q = p .0 ∙ sym (q .0)
 
 pub linkbox-clear-one : (κs : _) (a : _) (r r′ : _) (s s′ : _) → clear.Post κs a r s → clear.Post κs a r′ s′
-    → (r ≡ r′)
-    × (now (s .1 .1 .1 .1 .1 .0) ≡ now (s′ .1 .1 .1 .1 .1 .0))
-    × (now (s .1 .1 .1 .1 .1 .1 .0) ≡ now (s′ .1 .1 .1 .1 .1 .1 .0))
+    → (r ≡ r′) × (leftSession a s ≡ leftSession a s′)
 linkbox-clear-one κs a r r′ s s′ p q =
-    let e = p .0 ∙ sym (q .0) in
-    let o = stores (now (a .0)) (now (a .1 .0)) (now (a .1 .1 .0)) .one (now (a .1 .1 .1 .0)) (now (a .1 .1 .1 .1 .0)) (now (s .1 .1 .1 .1 .1 .0)) (now (s .1 .1 .1 .1 .1 .1 .0))
-    (now (a .1 .1 .1 .0)) (now (a .1 .1 .1 .1 .0)) (now (s′ .1 .1 .1 .1 .1 .0)) (now (s′ .1 .1 .1 .1 .1 .1 .0)) (p .1) (q .1) (state-is e) in
-    (answer-is e, o .2, o .3)
+    let o = ends-once (held a) (leftSession a s) (leftSession a s′) (p .1) (q .1) (p .0 ∙ sym (q .0)) in
+    (o .0, o .1)
 
 pub linkbox-conditions-one : (κs : _) (a : _) (r r′ : _) (s s′ : _) → conditions.Post κs a r s → conditions.Post κs a r′ s′ → r ≡ r′
 linkbox-conditions-one κs a r r′ s s′ p q = p ∙ sym q

@@ -1,3 +1,5 @@
+pub mod Intervals
+pub mod TrueLosses
 pub mod Meets
 pub mod Both
 pub mod Tight

@@ -1,125 +1,21 @@
--- Our step meets demand 3. What needs no premise on counts comes first; then each side by itself. Assumes nothing.
-use Prim.Native.Nat.{ℕ, suc, _+_, _-_, _%_, _^_, _≤_, _<_}
+-- Our step meets demand 3, each side by itself. Assumes nothing.
+use Prim.Native.Nat.{ℕ, _+_, _%_, _^_, _≤_, _<_}
 use mathlib.Core.Path.{_≡_, refl, sym, ap, ap₂, _∙_}
-use mathlib.Core.Bool.{Bool, true, false}
 use mathlib.Core.List.{List, [], _∷_, map}
 use native.Mathlib.Omega.{arith}
-use native.Mathlib.Nat.{add-zero}
-use lib.IntN.{ℤ, pos, subℕ, _+ℤ_, _-ℤ_}
-use lib.Dec.{eqb, lit<}
+use lib.IntN.{ℤ, pos, subℕ, _+ℤ_}
 use lib.ListN.{length}
-use borrow.Author.Tests.{eqb-true, eqb-false}
 use Rattle.base_clock.specs.Run.{after}
-use Rattle.base_laws.proofs.Signed.{sub-add, pos-less, sub-up}
 use Rattle.loss_session.specs.declared.Readings.{Readings}
 use Rattle.loss_session.specs.declared.LossSession.{LossSession}
-use Rattle.loss_reading.specs.declared.LossAnswer.the-variants.{Full}
 use Rattle.loss_reading.specs.declared.Updated.{Updated}
-use Rattle.loss_growth.specs.Growth.{growth}
-use Rattle.loss_session.specs.Session.{Side, near, far, sentOf, receivedOf, totalOf, clearedSession, WellFormed, mostIntervals, mostReadings}
+use Rattle.loss_session.specs.Session.{Side, near, far, sentOf, receivedOf, totalOf, clearedSession, mostIntervals, mostReadings}
 use Rattle.loss_reading.specs.Reading.{lossOn, firstOf, measuredOf, afterReading}
-use Rattle.loss_growth.proofs.Growing.{true-growth}
-use Rattle.loss_session.proofs.Laws.{well, cleared-well}
-use Rattle.loss_reading.proofs.Laws.{stays, reading-first, reading-full, reading-measured, measured-total}
+use Rattle.loss_reading.proofs.Laws.{measured-total}
 use Rattle.loss_account.specs.Account.{Truth, Grows, GoesOn, Sound, lost, losses, newest, total}
 use Rattle.loss_account.specs.Demand3.{answers, leaves, kept, loss, seen, accounted, Shows, Agrees, Demand3}
-
--- ── without any premise on the counts ──
-
--- a session that holds a reading and n intervals
-record Reach (n : ℕ) (s : LossSession) : Type 0 where
-  pub fine : WellFormed s
-  pub held : s .kept ≡ 1
-  pub count : s .intervals ≡ n
-
-module _ (n : ℕ) (s : LossSession) (h : Reach n s) (r : Readings) where
-  measures : n < mostIntervals → afterReading s r ≡ measuredOf s r
-  measures few = reading-measured s r (well s .1 (h .fine)) (λ z. omega (arith, h .held)) (λ q. omega (arith, h .count))
-
-  more : n < mostIntervals → Reach (n + 1) (afterReading s r .session)
-  more few =
-      let e = measures few in
-      record { fine = stays s r (h .fine); held = rw e (h .held); count = rw e (omega (arith, h .count)) }
-
-  stops : n ≡ mostIntervals → afterReading s r ≡ record { answer = Full; session = s }
-  stops full = reading-full s r (well s .1 (h .fine)) (λ z. omega (arith, h .held)) (h .count ∙ full)
-
-starts : (r : Readings) → afterReading clearedSession r ≡ firstOf clearedSession r
-starts r = reading-first clearedSession r (well clearedSession .1 cleared-well) refl
-
-started : (r : Readings) → Reach 0 (afterReading clearedSession r .session)
-started r = record { fine = stays clearedSession r cleared-well; held = rw (starts r) refl; count = rw (starts r) refl }
-
-counts : (rs : List Readings) (n : ℕ) (s : LossSession) → Reach n s → n + length rs ≤ mostIntervals → Reach (n + length rs) (leaves afterReading s rs)
-unfolding after
-counts [] n s h few = rw (add-zero n) h
-counts (r ∷ rs) n s h few =
-    let e : n + suc (length rs) ≡ (n + 1) + length rs = omega arith in
-    rw e (counts rs (n + 1) (afterReading s r .session) (more n s h r (omega arith)) (omega arith))
-
-fills : (rs : List Readings) (n : ℕ) (s : LossSession) → Reach n s → n ≤ mostIntervals → mostIntervals ≤ n + length rs → Reach mostIntervals (leaves afterReading s rs)
-unfolding after
-fills [] n s h few many = let e : n ≡ mostIntervals = omega arith in rw e at h
-fills (r ∷ rs) n s h few many = go (λ m z. fills rs m z) (eqb n mostIntervals) refl
-  where
-    go : ((m : ℕ) (z : LossSession) → Reach m z → m ≤ mostIntervals → mostIntervals ≤ m + length rs
-        → Reach mostIntervals (leaves afterReading z rs))
-        → (b : Bool) → eqb n mostIntervals ≡ b → Reach mostIntervals (leaves afterReading (afterReading s r .session) rs)
-    go again true e =
-        let q : n ≡ mostIntervals = eqb-true n mostIntervals e in
-        rw (stops n s h r q) (again n s h few (omega arith))
-    go again false e =
-        let q : n < mostIntervals = omega (arith, eqb-false n mostIntervals e) in
-        again (n + 1) (afterReading s r .session) (more n s h r q) (omega arith) (omega arith)
-
-intervals : (rs : List Readings) → length rs ≤ mostReadings → leaves afterReading clearedSession rs .intervals ≡ length rs - 1
-unfolding after
-intervals [] few = refl
-intervals (r ∷ rs) few = omega (arith, counts rs 0 (afterReading clearedSession r .session) (started r) (omega arith) .count)
-
-later : (rs : List Readings) (r : Readings) → mostReadings ≤ length rs
-    → afterReading (leaves afterReading clearedSession rs) r ≡ record { answer = Full; session = leaves afterReading clearedSession rs }
-unfolding after
-later [] r many = absurd (omega arith)
-later (q ∷ rs) r many = stops mostIntervals _ (fills rs 0 (afterReading clearedSession q .session) (started q) (omega arith) (omega arith)) r refl
-
--- ── the account's arithmetic ──
-
--- growth of a reading is true growth
-grown : (a b : ℕ) → Grows a b → growth (2 ^ 32) (a % 2 ^ 32) (b % 2 ^ 32) ≡ b - a
-grown a b g = true-growth (2 ^ 32) a b (lit< tt) (g .rises) (g .small)
-
-rising : (a b : ℕ) → a ≤ b → pos b -ℤ pos a ≡ pos (b - a)
-rising a b le = pos-less b a ∙ sub-up b a (b - a) (omega arith)
-
--- no true count of o is above that of t
-record Before (o t : Truth) : Type 0 where
-  pub sent : o .sent ≤ t .sent
-  pub received : o .received ≤ t .received
-
-plain : (o t : Truth) → Before o t → lost o t ≡ subℕ (t .sent - o .sent) (t .received - o .received)
-plain o t b =
-    ap₂ (λ (x y : ℤ). x -ℤ y) (rising (o .sent) (t .sent) (b .sent)) (rising (o .received) (t .received) (b .received))
-    ∙ pos-less (t .sent - o .sent) (t .received - o .received)
-
--- losses add up
-adds : (o t u : Truth) → Before o t → Before t u → lost o t +ℤ lost t u ≡ lost o u
-adds o t u g h =
-    let e : (t .sent - o .sent) + (u .sent - t .sent) ≡ u .sent - o .sent = omega arith in
-    let f : (t .received - o .received) + (u .received - t .received) ≡ u .received - o .received = omega arith in
-    let b : Before o u = record { sent = omega arith; received = omega arith } in
-    ap₂ (λ (x y : ℤ). x +ℤ y) (plain o t g) (plain t u h)
-    ∙ sub-add (t .sent - o .sent) (t .received - o .received) (u .sent - t .sent) (u .received - t .received)
-    ∙ ap₂ subℕ e f
-    ∙ sym (plain o u b)
-
-none-lost : (t : Truth) → lost t t ≡ pos 0
-none-lost t =
-    let e : t .sent - t .sent ≡ 0 = omega arith in
-    let f : t .received - t .received ≡ 0 = omega arith in
-    plain t t (record { sent = omega arith; received = omega arith }) ∙ ap₂ subℕ e f
-
--- ── one side ──
+use Rattle.loss_account.proofs.Intervals.{Reach, measures, more, starts, started, intervals, later}
+use Rattle.loss_account.proofs.TrueLosses.{grown, Before, plain, adds, none-lost}
 
 -- a reading shows a side's true counts
 record Shown (d : Side) (r : Readings) (t : Truth) : Type 0 where

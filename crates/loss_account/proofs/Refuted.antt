@@ -1,5 +1,5 @@
 -- The wrong steps of specs/Wrong.antt do not meet demand 3: each by readings that are written out. Assumes nothing.
-use Prim.Native.Nat.{ℕ, suc, _+_, _-_, _≤_}
+use Prim.Native.Nat.{ℕ, _+_, _-_, _≤_}
 use mathlib.Core.Path.{_≡_, refl, sym, ap, _∙_}
 use mathlib.Core.List.{List, [], _∷_}
 use native.Mathlib.Omega.{arith}
@@ -8,6 +8,7 @@ use lib.ListN.{length, replicate, length-replicate}
 use borrow.Author.Tests.{eq-eqb}
 use Rattle.base_clock.specs.Run.{after}
 use Rattle.base_laws.specs.Tests.{choose}
+use Rattle.base_laws.proofs.Tests.{differ}
 use Rattle.loss_session.specs.declared.Readings.{Readings}
 use Rattle.loss_session.specs.declared.LossSession.{LossSession}
 use Rattle.loss_reading.specs.declared.Updated.{Updated}
@@ -39,7 +40,7 @@ lastNumber [] = 0
 lastNumber (x ∷ []) = lossNumber x
 lastNumber (x ∷ y ∷ xs) = lastNumber (y ∷ xs)
 
-grows : (a b : ℕ) → a ≤ b → b - a ≤ 4294967295 → Grows a b
+pub grows : (a b : ℕ) → a ≤ b → b - a ≤ 4294967295 → Grows a b
 grows a b h k = record { rises = h; small = omega arith }
 
 still : (a : ℕ) → Grows a a
@@ -47,9 +48,6 @@ still a = grows a a (omega arith) (omega arith)
 
 step : (a : ℕ) → Grows a (a + 1)
 step a = grows a (a + 1) (omega arith) (omega arith)
-
-differ : (n m k : ℕ) → n ≡ m → n ≡ m + suc k → ⊥
-differ n m k e f = omega arith
 
 -- two readings of four zeros: one interval
 idle-out : Demand3 idle → ⊥

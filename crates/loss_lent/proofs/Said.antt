@@ -1,33 +1,25 @@
 -- The lent session leaves what the paper says of it. Assumes nothing.
 use mathlib.Core.Path.{_≡_, refl, _∙_}
-use mathlib.Core.Bool.{true, false}
-use mathlib.Core.Logic.{⊎-elim}
 use native.Mathlib.Omega.{arith}
 use borrow.Author.Tests.{ne-eqb}
 use Rattle.base_laws.specs.Tests.{choose}
-use Rattle.base_laws.proofs.Tests.{known}
+use Rattle.base_laws.proofs.Tests.{fails}
 use Rattle.loss_session.specs.declared.Readings.{Readings}
 use Rattle.loss_session.specs.declared.LossSession.{LossSession}
-use Rattle.loss_session.specs.Session.{WellFormed, wellFormed, mostIntervals}
+use Rattle.loss_session.specs.Session.{mostIntervals}
 use Rattle.loss_reading.specs.declared.LossTold.{LossTold}
 use Rattle.loss_reading.specs.Reading.{afterReading}
 use Rattle.loss_reading.specs.Told.{numbersOf}
-use Rattle.loss_reading.proofs.Laws.{sessions, Case, bad, begins, stops, measures, cases}
+use Rattle.loss_reading.proofs.Laws.{Case, bad, begins, stops, measures, cases}
+use Rattle.loss_reading.proofs.Refusals.{sessions}
 use Rattle.loss_lent.specs.Lent.{readingOf, Lent}
 use Rattle.loss_lent.specs.Said.{LentSaid, lent-2, lent-first, lent-later, lent-5, FollowsLent, LentFollows}
 
 module _ (s : LossSession) (r : Readings) where
-  unwell : (WellFormed s → ⊥) → wellFormed s ≡ false
-  unwell n =
-      ⊎-elim
-      (λ (e : wellFormed s ≡ true). absurd (n (sessions .well s .0 e)))
-      (λ (e : wellFormed s ≡ false). e)
-      (known (wellFormed s))
-
   -- ours is what each line says
   told-is : {t : LossTold} {e : LossSession} → LentSaid s r t e → (readingOf s r .told ≡ t) × (readingOf s r .session ≡ e)
   unfolding numbersOf afterReading choose
-  told-is (lent-2 n) = rw (unwell n) (refl, refl)
+  told-is (lent-2 n) = rw (fails (sessions .well s) n) (refl, refl)
   told-is (lent-first w k) = rw (sessions .well s .1 w, k) (refl, refl)
   told-is (lent-later w k n) =
       rw (sessions .well s .1 w, ne-eqb (s .kept) 0 (λ e. omega (arith, e, k)), ne-eqb (s .intervals) mostIntervals (λ e. omega (arith, e, n))) (refl, refl)

@@ -1,16 +1,14 @@
 -- A CCM laid over the buffer piece by piece, each right behind the one before it. Assumes nothing.
-use Prim.Native.Nat.{ℕ, _+_, _≤_}
+use Prim.Native.Nat.{ℕ, _≤_}
 use mathlib.Core.Path.{_≡_, refl, _∙_}
-use mathlib.Core.List.{List, _++_}
+use mathlib.Core.List.{List}
 use native.Mathlib.Omega.{arith}
 use lib.ListN.{length, length-append}
-use Rattle.base_laws.specs.Lists.{part, laid}
-use Rattle.base_laws.proofs.Lists.{length-part}
+use Rattle.base_laws.specs.Lists.{laid}
 use Rattle.base_numbers.specs.Numbers.{inOctets, bigEndian}
 use Rattle.base_numbers.proofs.Laws.{length-octets}
 use Rattle.frame_multicast.specs.Multicast.{multicastOf}
 use Rattle.base_bits.specs.Fields.{firstOctet, ccmFlags, mepId}
-use Rattle.state_settings.specs.Settings.{addressAt, nameOctets, megNamed, megOctets, megFrom}
 use Rattle.message_parts.specs.Messages.{count, afterDestination}
 use Rattle.base_laws.proofs.Pieces.{first, more}
 use Rattle.message_parts.proofs.Laid.{count-long, after-long, zeros}

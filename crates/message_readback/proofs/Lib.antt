@@ -1,4 +1,9 @@
+pub mod WordsRead
 pub mod Framed
+pub mod CcmSent
 pub mod Sent
 pub mod Kept
+pub mod AnswerReads
+pub mod RequestKnown
+pub mod TwoLaid
 pub mod Replies

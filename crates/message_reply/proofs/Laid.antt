@@ -6,7 +6,8 @@ use mathlib.Core.List.{List, [], _∷_}
 use native.Mathlib.Omega.{arith}
 use lib.ListN.{length, set, take, drop}
 use Rattle.base_laws.specs.Lists.{part, laid}
-use Rattle.base_laws.proofs.Lists.{laid-inside, laid-one, length-laid, length-part}
+use Rattle.base_laws.proofs.Parts.{length-part}
+use Rattle.base_laws.proofs.Overlaid.{laid-inside, laid-one, length-laid}
 use Rattle.frame_head.specs.Head.{sourceOf}
 use Rattle.message_reply.specs.Replies.{replyOctets}
 

@@ -1,7 +1,7 @@
 -- What a request is answered in each of its three cases, and the answer in the paper's numbers. Assumes nothing.
 use Prim.Native.Nat.{ℕ, _+_, _≤_, _<_}
 use mathlib.Core.Path.{_≡_, refl, sym, ap, _∙_}
-use mathlib.Core.Bool.{Bool, true, false, cond}
+use mathlib.Core.Bool.{true, false, cond}
 use mathlib.Core.List.{List, [], _∷_}
 use native.Mathlib.Omega.{arith}
 use lib.Dec.{eqb}
@@ -10,10 +10,10 @@ use borrow.Author.Tests.{lt-ltb, le-ltb}
 use Rattle.base_laws.specs.Tests.{choose}
 use Rattle.base_laws.specs.Lists.{laid}
 use Rattle.base_laws.proofs.Tests.{choose-map}
-use Rattle.message_parts.specs.Buffer.{noRoom, bufferOf}
+use Rattle.message_parts.specs.Buffer.{noRoom}
 use Rattle.message_reply.specs.declared.Replied.{Replied}
 use Rattle.message_reply.specs.declared.Replied.the-variants.{CutOff, NoRoom, Octets}
-use Rattle.message_reply.specs.Replied.{cutOff, repliedOf, leftOf, RepliedTold, numbers, told, numbersOf, RepliedNumbers}
+use Rattle.message_reply.specs.Replied.{cutOff, repliedOf, leftOf, RepliedTold, told, numbersOf, RepliedNumbers}
 
 -- ── numbers ──
 

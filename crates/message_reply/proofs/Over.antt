@@ -5,7 +5,6 @@ use mathlib.Core.Path.{_≡_, ap, _∙_}
 use mathlib.Core.List.{List}
 use native.Mathlib.Omega.{arith}
 use lib.ListN.{length}
-use Rattle.base_laws.specs.Lists.{laid}
 use Rattle.message_reply.specs.declared.Replied.the-variants.{CutOff, NoRoom, Octets}
 use Rattle.message_reply.specs.Replies.{replyOctets, replyInto}
 use Rattle.message_reply.proofs.Laid.{over, Within, over-long, over-laid, reply-long}

@@ -11,6 +11,7 @@ use Rattle.base_numbers.specs.Numbers.{inOctets, bigEndian}
 use Rattle.base_numbers.proofs.Laws.{length-octets}
 use Rattle.base_bits.specs.Fields.{firstOctet}
 use Rattle.base_stamp.specs.declared.Stamp.{Stamp}
+use Rattle.state_settings.proofs.Shape.{own-long, peer-long}
 use Rattle.state_settings.specs.Settings.{addressAt, nameOctets}
 use Rattle.state_settings.proofs.Shape.{own-long, peer-long}
 use Rattle.message_parts.specs.Messages.{count, stampOctets, afterDestination}

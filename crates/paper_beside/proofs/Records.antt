@@ -1,68 +1,33 @@
--- Records as the paper's lines: ours follows them, and they leave one outcome. Assumes nothing.
+-- The paper says something of every call on records, and what does not follow it is shut out. Assumes nothing.
 use Prim.Native.Nat.{ℕ, _≤_, _<_}
-use mathlib.Core.Path.{_≡_, refl, sym, ap, ap₂, _∙_}
-use mathlib.Core.List.{List, []}
-use mathlib.Core.Bool.{Bool, true, false, true≢false}
+use mathlib.Core.Path.{_≡_, refl, sym, ap, _∙_}
+use mathlib.Core.List.{List}
+use mathlib.Core.Bool.{Bool, true, true≢false}
 use mathlib.Core.Logic.{_⊎_, inl, inr, ⊎-elim}
 use native.Mathlib.Omega.{arith}
 use lib.Dec.{ltb}
 use lib.IntN.{pos}
 use lib.ListN.{length, getD, replicate}
 use borrow.Author.Tests.{ltb-true, ltb-false}
-use Rattle.base_laws.specs.Ended.{Wrote}
 use Rattle.base_laws.specs.Lists.{laid}
 use Rattle.base_laws.proofs.Tests.{known}
+use Rattle.state_settings.specs.Settings.{Settings}
 use Rattle.state_settings.specs.Valid.{Valid, valid}
 use Rattle.state_settings.proofs.Rules.{valid-is}
-use Rattle.stored_record.specs.declared.RecordAnswer.{RecordAnswer}
-use Rattle.stored_record.specs.declared.RecordAnswer.the-variants as stored
 use Rattle.base_numbers.specs.Numbers.{inOctets, octetsLowestFirst}
 use Rattle.stored_record.specs.Record.{headOf, recordOf, IsRecord, NoRecord, isRecord}
-use Rattle.stored_record.specs.Writing.{told}
 use Rattle.stored_record.proofs.Laws.{records}
-use Rattle.stored_settings.specs.SettingsRecord.{settingsRecord, settingsAt, readSettings, writeSettings}
-use Rattle.stored_settings.proofs.Records.{settings-records}
+use Rattle.stored_settings.specs.SettingsRecord.{settingsAt}
+use Rattle.stored_settings.proofs.SettingsRecords.{settings-records}
 use Rattle.stored_line.specs.declared.LossLine.{LossLine}
-use Rattle.stored_line.specs.declared.LineAnswer.{LineAnswer}
 use Rattle.stored_line.specs.Line.{KeepsRules, keepsRules, lineBody, lineRecord, lineIn}
-use Rattle.stored_line.specs.Calls.{writeLine}
-use Rattle.stored_line.proofs.Calls.{loss-records, at-line}
-use Rattle.paper_beside.specs.Records.{RecordCall, read-settings, write-settings, read-line, write-line, RecordTells, refused, settings, line, written, RecordLeft, leaving, Handed, RecordSaid, settings-7-record, settings-7-rule, settings-given, settings-4, settings-3, settings-written, line-7-record, line-7-rule, line-given, line-4, line-3, line-written, writeTells, lineTells, ourRecords, FollowsRecords, RecordsFollow}
-
--- what a write leaves, from its answer and its buffer
-wrote : (e : Wrote RecordAnswer) (r : RecordAnswer) (b : List ℕ) → e .answer ≡ r → e .buffer ≡ b → leaving (writeTells (e .answer)) (e .buffer) ≡ leaving (writeTells r) b
-wrote e r b f g = ap₂ (λ (x : RecordAnswer) (l : List ℕ). leaving (writeTells x) l) f g
-
--- a refusal has a number
-has-number : (r : RecordAnswer) (n : ℕ) → told r .refusal ≡ n → 0 < n → told r .refusal ≡ 0 → ⊥
-has-number r n e h z = omega (arith, e, z)
-
-seven : (octets : List ℕ) → readSettings octets .refusal ≡ 7 → ourRecords (read-settings octets) ≡ leaving (refused 7) []
-seven octets e = rw e
-
-follows : (c : RecordCall) (o : RecordLeft) → Handed c → RecordSaid c o → ourRecords c ≡ o
-unfolding told
-follows c o h (settings-7-record octets n) = seven octets (settings-records .refuses-7 octets .1 (inl n))
-follows c o h (settings-7-rule octets n) = seven octets (settings-records .refuses-7 octets .1 (inr n))
-follows c o h (settings-given octets r v) = let g = settings-records .gives octets r v in rw (g .0, g .1)
-follows c o h (settings-4 s b n) =
-    let e = settings-records .refuses-4 s b h .1 n in
-    wrote (writeSettings s b) stored.BreaksRule b e (settings-records .refused s b (has-number (writeSettings s b .answer) 4 (ap (λ (r : RecordAnswer). told r .refusal) e) (omega arith)))
-follows c o h (settings-3 s b v l) =
-    let e = settings-records .refuses-3 s b h .1 (v, l) in
-    wrote (writeSettings s b) stored.NoRoom b e (settings-records .refused s b (has-number (writeSettings s b .answer) 3 (ap (λ (r : RecordAnswer). told r .refusal) e) (omega arith)))
-follows c o h (settings-written s b v l) = ap (λ (e : Wrote RecordAnswer). leaving (writeTells (e .answer)) (e .buffer)) (settings-records .writes s b v h l)
-follows c o h (line-7-record octets n) = ap (λ (r : LineAnswer). leaving (lineTells r) []) (loss-records .refuses-7 octets .1 (inl n))
-follows c o h (line-7-rule octets n) = ap (λ (r : LineAnswer). leaving (lineTells r) []) (loss-records .refuses-7 octets .1 (inr n))
-follows c o h (line-given octets r k) =
-    ap (λ (a : LineAnswer). leaving (lineTells a) []) (at-line octets (records .is 2 20 octets .1 r) (loss-records .rules (lineIn octets) .1 k))
-follows c o h (line-4 l b n) =
-    let e = loss-records .refuses-4 l b .1 n in
-    wrote (writeLine l b) stored.BreaksRule b e (loss-records .refused l b (has-number (writeLine l b .answer) 4 (ap (λ (r : RecordAnswer). told r .refusal) e) (omega arith)))
-follows c o h (line-3 l b k m) =
-    let e = loss-records .refuses-3 l b .1 (k, m) in
-    wrote (writeLine l b) stored.NoRoom b e (loss-records .refused l b (has-number (writeLine l b .answer) 3 (ap (λ (r : RecordAnswer). told r .refusal) e) (omega arith)))
-follows c o h (line-written l b k m) = ap (λ (e : Wrote RecordAnswer). leaving (writeTells (e .answer)) (e .buffer)) (loss-records .writes l b k m)
+use Rattle.stored_line.proofs.LineRecords.{loss-records}
+use Rattle.paper_beside.specs.Records.{RecordCall, read-settings, write-settings, read-line, write-line, RecordTells, refused}
+use Rattle.paper_beside.specs.Records.{settings, line, written, RecordLeft, leaving, Handed, RecordSaid, settings-7-record}
+use Rattle.paper_beside.specs.Records.{settings-7-rule, settings-given, settings-4, settings-3, settings-written, line-7-record}
+use Rattle.paper_beside.specs.Records.{line-7-rule, line-given, line-4, line-3, line-written, ourRecords, FollowsRecords}
+use Rattle.paper_beside.specs.Records.{RecordsFollow}
+use Rattle.paper_beside.proofs.RecordsTold.{follows}
 
 -- ── of every call ──
 
@@ -71,36 +36,35 @@ either : (P : Type 0) (b : Bool) → (b ≡ true → P) → (P → b ≡ true) �
 either P b to from = ⊎-elim (λ t. inl (to t)) (λ f. inr (λ p. true≢false (sym (from p) ∙ f))) (known b)
 
 recorded : (kind body : ℕ) (octets : List ℕ) → IsRecord kind body octets ⊎ NoRecord kind body octets
-recorded kind body octets = ⊎-elim (λ t. inl (records .is kind body octets .0 t)) (λ f. inr (records .is-not kind body octets .0 f)) (known (isRecord kind body octets))
+recorded kind body octets =
+    ⊎-elim (λ t. inl (records .is kind body octets .0 t)) (λ f. inr (records .is-not kind body octets .0 f))
+    (known (isRecord kind body octets))
 
-shorter : (b : List ℕ) (n : ℕ) → (length b < n) ⊎ (n ≤ length b)
-shorter b n = ⊎-elim (λ t. inl (ltb-true (length b) n t)) (λ f. inr (ltb-false (length b) n f)) (known (ltb (length b) n))
+-- is there room for n octets?
+room : (b : List ℕ) (n : ℕ) → (n ≤ length b) ⊎ (length b < n)
+room b n = ⊎-elim (λ t. inr (ltb-true (length b) n t)) (λ f. inl (ltb-false (length b) n f)) (known (ltb (length b) n))
+
+is-settings : (s : Settings) → Valid s ⊎ (Valid s → ⊥)
+is-settings s = either (Valid s) (valid s) (valid-is .valid-is s .0) (valid-is .valid-is s .1)
+
+is-line : (l : LossLine) → KeepsRules l ⊎ (KeepsRules l → ⊥)
+is-line l = either (KeepsRules l) (keepsRules l) (loss-records .rules l .0) (loss-records .rules l .1)
+
+-- one of three sentences speaks, by two tests in turn: the first fails, the second does, or neither
+in-turn : {P Q N M : Type 0} {c : RecordCall} {x y z : RecordLeft} → P ⊎ N → Q ⊎ M
+    → (N → RecordSaid c x) → (P → M → RecordSaid c y) → (P → Q → RecordSaid c z) → (o : RecordLeft) × RecordSaid c o
+in-turn (inr n) q f g h = (_, f n)
+in-turn (inl p) (inr m) f g h = (_, g p m)
+in-turn (inl p) (inl q) f g h = (_, h p q)
 
 every : (c : RecordCall) → Handed c → (o : RecordLeft) × RecordSaid c o
-every (read-settings octets) h = by (recorded 1 81 octets) (either (Valid (settingsAt octets)) (valid (settingsAt octets)) (valid-is .valid-is (settingsAt octets) .0) (valid-is .valid-is (settingsAt octets) .1))
-  where
-    by : IsRecord 1 81 octets ⊎ NoRecord 1 81 octets → Valid (settingsAt octets) ⊎ (Valid (settingsAt octets) → ⊥) → (o : RecordLeft) × RecordSaid (read-settings octets) o
-    by (inr n) v = (leaving (refused 7) [], settings-7-record octets n)
-    by (inl r) (inr n) = (leaving (refused 7) [], settings-7-rule octets n)
-    by (inl r) (inl v) = (leaving (settings (settingsAt octets)) [], settings-given octets r v)
-every (write-settings s b) h = by (either (Valid s) (valid s) (valid-is .valid-is s .0) (valid-is .valid-is s .1)) (shorter b 85)
-  where
-    by : Valid s ⊎ (Valid s → ⊥) → (length b < 85) ⊎ (85 ≤ length b) → (o : RecordLeft) × RecordSaid (write-settings s b) o
-    by (inr n) l = (leaving (refused 4) b, settings-4 s b n)
-    by (inl v) (inl l) = (leaving (refused 3) b, settings-3 s b v l)
-    by (inl v) (inr l) = (leaving (written 85) (laid 0 (settingsRecord s) b), settings-written s b v l)
-every (read-line octets) h = by (recorded 2 20 octets) (either (KeepsRules (lineIn octets)) (keepsRules (lineIn octets)) (loss-records .rules (lineIn octets) .0) (loss-records .rules (lineIn octets) .1))
-  where
-    by : IsRecord 2 20 octets ⊎ NoRecord 2 20 octets → KeepsRules (lineIn octets) ⊎ (KeepsRules (lineIn octets) → ⊥) → (o : RecordLeft) × RecordSaid (read-line octets) o
-    by (inr n) k = (leaving (refused 7) [], line-7-record octets n)
-    by (inl r) (inr n) = (leaving (refused 7) [], line-7-rule octets n)
-    by (inl r) (inl k) = (leaving (line (lineIn octets)) [], line-given octets r k)
-every (write-line l b) h = by (either (KeepsRules l) (keepsRules l) (loss-records .rules l .0) (loss-records .rules l .1)) (shorter b 24)
-  where
-    by : KeepsRules l ⊎ (KeepsRules l → ⊥) → (length b < 24) ⊎ (24 ≤ length b) → (o : RecordLeft) × RecordSaid (write-line l b) o
-    by (inr n) m = (leaving (refused 4) b, line-4 l b n)
-    by (inl k) (inl m) = (leaving (refused 3) b, line-3 l b k m)
-    by (inl k) (inr m) = (leaving (written 24) (laid 0 (lineRecord l) b), line-written l b k m)
+every (read-settings octets) h =
+    in-turn (recorded 1 81 octets) (is-settings (settingsAt octets))
+    (settings-7-record octets) (λ r. settings-7-rule octets) (settings-given octets)
+every (write-settings s b) h = in-turn (is-settings s) (room b 85) (settings-4 s b) (settings-3 s b) (settings-written s b)
+every (read-line octets) h =
+    in-turn (recorded 2 20 octets) (is-line (lineIn octets)) (line-7-record octets) (λ r. line-7-rule octets) (line-given octets)
+every (write-line l b) h = in-turn (is-line l) (room b 24) (line-4 l b) (line-3 l b) (line-written l b)
 
 says : (c : RecordCall) → Handed c → RecordSaid c (ourRecords c)
 says c h = let e = every c h in rw (follows c (e .0) h (e .1)) (e .1)
@@ -116,7 +80,9 @@ zeros = replicate 24 0
 
 nothing-written : RecordSaid (write-line nothing zeros) (leaving (written 24) (laid 0 (lineRecord nothing) zeros))
 unfolding nothing zeros
-nothing-written = line-written (record { near = pos 0; far = pos 0; intervals = 0 }) (replicate 24 0) (record { few = omega arith; near = omega arith; far = omega arith }) (omega arith)
+nothing-written =
+    line-written (record { near = pos 0; far = pos 0; intervals = 0 }) (replicate 24 0)
+    (record { few = omega arith; near = omega arith; far = omega arith }) (omega arith)
 
 -- an answer that is no refusal
 isWritten : RecordTells → ℕ

@@ -11,7 +11,7 @@ use borrow.Author.Tests.{le-leb, eq-eqb, le-ltb}
 use Rattle.base_laws.specs.Tests.{choose}
 use Rattle.base_laws.specs.Lists.{part}
 use Rattle.base_laws.proofs.Apart.{part-front}
-use Rattle.base_laws.proofs.Lists.{part-behind}
+use Rattle.base_laws.proofs.Parts.{part-behind}
 use Rattle.base_bits.specs.Fields.{firstOctet, mepId}
 use Rattle.base_numbers.specs.Numbers.{number, bigEndian}
 use Rattle.frame_opcodes.specs.Opcodes.{ruleOf}

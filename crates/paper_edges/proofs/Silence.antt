@@ -6,7 +6,7 @@ use native.Mathlib.Omega.{arith}
 use lib.Dec.{eqb}
 use lib.ListN.{length, getD, replicate, length-replicate}
 use borrow.Author.Tests.{lt-ltb}
-use Rattle.base_laws.proofs.Loops.{changes}
+use Rattle.base_laws.proofs.OnFirst.{changes}
 use Rattle.base_clock.specs.Run.{after}
 use Rattle.base_period.specs.Periods.{holdOf}
 use Rattle.state_settings.specs.Settings.{Settings, slots}
@@ -20,7 +20,8 @@ use Rattle.call_conditions.specs.Conditions.{lostAt, conditionsOf}
 use Rattle.call_conditions.proofs.Table.{table-at}
 use Rattle.call_conditions.proofs.Show.{conditions-show}
 use Rattle.call_tick.specs.Tick.{tickOf}
-use Rattle.call_tick.proofs.Ticks.{lowered-at, ticks}
+use Rattle.call_tick.proofs.TickedWell.{lowered-at}
+use Rattle.call_tick.proofs.Ticks.{ticks}
 use Rattle.paper_edges.specs.Table.{silent}
 
 module _ (buffer : List ℕ) (long : 89 ≤ length buffer) where

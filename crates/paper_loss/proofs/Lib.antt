@@ -1,11 +1,15 @@
 pub mod Same
+pub mod Quiet
 pub mod Step
 pub mod Lift
 pub mod AnyLength
 pub mod Counts
 pub mod Tied
 pub mod Answered
+pub mod Lossy
+pub mod EventOf
 pub mod Whole
+pub mod Seen
 pub mod Meets
 pub mod Joined
 pub mod Tight

@@ -1,18 +1,17 @@
 -- Every box that follows the paper meets demand 3 over runs of calls. Assumes nothing.
-use Prim.Native.Nat.{ℕ, zero, suc, _-_, _≤_}
+use Prim.Native.Nat.{ℕ, _-_, _≤_}
 use mathlib.Core.Path.{_≡_, refl, sym, ap, ap₂, _∙_}
-use mathlib.Core.List.{List, [], _∷_, _++_, map, map-append}
-use lib.IntN.{ℤ, pos}
+use mathlib.Core.List.{List, _++_, map, map-append}
 use lib.ListN.{length, take, replicate}
 use Rattle.loss_session.specs.declared.Readings.{Readings}
 use Rattle.loss_session.specs.declared.LossSession.{LossSession}
 use Rattle.loss_reading.specs.declared.LossAnswer.{LossAnswer}
 use Rattle.loss_reading.specs.declared.LossAnswer.the-variants as answer
 use Rattle.loss_reading.specs.declared.Updated.{Updated}
-use Rattle.loss_session.specs.Session.{Side, near, far, totalOf, clearedSession}
+use Rattle.loss_session.specs.Session.{Side, near, totalOf, clearedSession}
 use Rattle.loss_reading.specs.Reading.{afterReading}
 use Rattle.loss_session.proofs.Laws.{cleared-well}
-use Rattle.loss_account.specs.Account.{Truth, Sound, losses}
+use Rattle.loss_account.specs.Account.{Truth, Sound}
 use Rattle.loss_account.specs.Demand3 as account
 use Rattle.loss_account.specs.Demand3.{Shows}
 use Rattle.loss_account.proofs.Meets as Account
@@ -24,7 +23,7 @@ use Rattle.state_settings.specs.Settings.{Settings}
 use Rattle.call_setting.specs.Start.{startOf}
 use Rattle.call_setting.proofs.Starts.{starts}
 use Rattle.paper_said.proofs.Started.{fresh-own}
-use Rattle.paper_said.specs.Calls.{Arrival, Call, new-setting, frame, clear, Answer, leaves, OnWire, NoSetting, Box}
+use Rattle.paper_said.specs.Calls.{Arrival, Call, new-setting, frame, clear, leaves, OnWire, NoSetting, Box}
 use Rattle.paper_said.specs.Calls as told
 use Rattle.paper_said.specs.Said as paper
 use Rattle.paper_said.specs.Called as calling
@@ -34,9 +33,9 @@ use Rattle.paper_said.specs.Taken.{LossReply}
 use Rattle.paper_said.specs.Ours.{ours, Follows}
 use Rattle.paper_said.proofs.Follows.{ours-follows}
 use Rattle.paper_loss.specs.Runs.{run, answers, Each, Event}
-use Rattle.paper_loss.specs.Replies.{most, oursAt, repliesIn, accepted, Seen, refused, loss, seen, accounted, SinceClear}
+use Rattle.paper_loss.specs.Replies.{most, oursAt, repliesIn, accepted, refused, seen, SinceClear}
 use Rattle.paper_loss.specs.Own.{beside}
-use Rattle.paper_loss.specs.Demand3.{said, Measured, Agrees, Begins, Demand3}
+use Rattle.paper_loss.specs.Demand3.{said, Agrees, Begins, Demand3}
 use Rattle.paper_loss.specs.Meets.{Meets}
 use Rattle.paper_loss.proofs.Same.{reply-to}
 use Rattle.paper_loss.proofs.Step.{toldOf, reply-said}
@@ -46,60 +45,19 @@ use Rattle.paper_loss.proofs.AnyLength.{answers-take, Cut, cut}
 use Rattle.paper_loss.proofs.Counts.{counts}
 use Rattle.paper_loss.proofs.Answered.{answered}
 use Rattle.paper_loss.proofs.Tied.{shown, rising, sound}
-
--- ── one side of an answer, in the account's words and in the box's ──
-
-abbrev inBox : account.Seen → Seen
-inBox (account.refused n) = refused n
-inBox account.kept = loss (pos 0)
-inBox (account.loss z) = loss z
-
-told-seen : (d : Side) (x : LossAnswer) → seen d (toldOf x) ≡ inBox (account.seen d x)
-told-seen near answer.NotWellFormed = refl
-told-seen near answer.Full = refl
-told-seen near answer.First = refl
-told-seen near (answer.Measured n f) = refl
-told-seen far answer.NotWellFormed = refl
-told-seen far answer.Full = refl
-told-seen far answer.First = refl
-told-seen far (answer.Measured n f) = refl
-
-all-seen : (d : Side) (xs : List LossAnswer) → map (seen d) (map toldOf xs) ≡ map inBox (map (account.seen d) xs)
-all-seen d [] = refl
-all-seen d (x ∷ xs) = ap₂ _∷_ (told-seen d x) (all-seen d xs)
-
-all-losses : (zs : List ℤ) → map inBox (map account.loss zs) ≡ map loss zs
-all-losses [] = refl
-all-losses (z ∷ zs) = ap (λ (l : List Seen). loss z ∷ l) (all-losses zs)
-
-all-accounted : (ts : List Truth) → map inBox (account.accounted ts) ≡ map loss (accounted ts)
-unfolding account.accounted
-all-accounted [] = refl
-all-accounted (t ∷ ts) = ap (λ (l : List Seen). loss (pos 0) ∷ l) (all-losses (losses t ts))
-
-all-full : (d : Side) (k : ℕ) → map inBox (map (account.seen d) (replicate k answer.Full)) ≡ replicate k (refused 5)
-all-full d zero = refl
-all-full near (suc k) = ap (λ (l : List Seen). refused 5 ∷ l) (all-full near k)
-all-full far (suc k) = ap (λ (l : List Seen). refused 5 ∷ l) (all-full far k)
-
-take-map : {A B : Type 0} (g : A → B) (k : ℕ) (xs : List A) → take k (map g xs) ≡ map g (take k xs)
-take-map g zero xs = refl
-take-map g (suc k) [] = refl
-take-map g (suc k) (x ∷ xs) = ap (λ (l : List _). g x ∷ l) (take-map g k xs)
-
--- what holds of each of a list holds of each of the same list
-each-of : (xs ys : List Answer) → xs ≡ ys → Each Measured ys → Each Measured xs
-each-of xs ys e h = rw e h
-
--- ── a box that follows ──
+use Rattle.paper_loss.proofs.Seen.{inBox, all-seen, all-accounted, all-full, take-map, each-of}
 
 module _ (B : Box) (F : Follows B) where
   module _ (n : ℕ) (s : State) (cs : List Call) (es : List Event) (c : SinceClear n s cs es) where
+    -- ── a box that follows ──
+
     abbrev rs : List Readings
     rs = repliesIn n es
 
     lifted : Lift B F s n s cs es
-    lifted = lift B F s cs es (c .events) (c .wire) (c .no-setting) (c .no-clear) n s (record { start = c .well; well = c .well; settings = refl }) (c .count)
+    lifted =
+        lift B F s cs es (c .events) (c .wire) (c .no-setting) (c .no-clear) n s
+        (record { start = c .well; well = c .well; settings = refl }) (c .count)
 
     answers-are : said B s cs es ≡ map toldOf (account.answers afterReading clearedSession rs)
     answers-are = lifted .said ∙ ap (λ (x : LossSession). map toldOf (account.answers afterReading x rs)) (c .cleared)
@@ -111,7 +69,9 @@ module _ (B : Box) (F : Follows B) where
     cuts = cut afterReading Account.meets rs
 
     first-answers : take most (said B s cs es) ≡ map toldOf (account.answers afterReading clearedSession (take most rs))
-    first-answers = ap (take most) answers-are ∙ take-map toldOf most (account.answers afterReading clearedSession rs) ∙ ap (map toldOf) (answers-take afterReading most rs clearedSession)
+    first-answers =
+        ap (take most) answers-are ∙ take-map toldOf most (account.answers afterReading clearedSession rs)
+        ∙ ap (map toldOf) (answers-take afterReading most rs clearedSession)
 
     first-session : run B s cs .session ≡ account.leaves afterReading clearedSession (take most rs)
     first-session = session-is ∙ cuts .left
@@ -135,12 +95,14 @@ module _ (B : Box) (F : Follows B) where
     intervals-are : run B s cs .session .intervals ≡ length (take most rs) - 1
     intervals-are = ap (λ (x : LossSession). x .intervals) first-session ∙ Account.meets .intervals (take most rs) (cuts .few)
 
-    later-refused : (a : Arrival) → most ≤ length rs → OnWire (frame a) → LossReply s a → B (run B s cs) (frame a) ≡ leaves (told.refused 5) (run B s cs) (a .buffer)
+    later-refused : (a : Arrival) → most ≤ length rs → OnWire (frame a) → LossReply s a
+        → B (run B s cs) (frame a) ≡ leaves (told.refused 5) (run B s cs) (a .buffer)
     later-refused a many u l =
         let y = run B s cs in
         let w = lifted .end in
         let e = F .follows y (frame a) _ u (reply-said y a (reply-to s y a (w .well) (sym (w .settings)) l)) in
-        let full : afterReading (y .session) (made.reading y a) ≡ record { answer = answer.Full; session = y .session } = rw session-is (Account.meets .later rs (made.reading y a) many) in
+        let full : afterReading (y .session) (made.reading y a) ≡ record { answer = answer.Full; session = y .session } =
+        rw session-is (Account.meets .later rs (made.reading y a) many) in
         e ∙ ap (λ (x : Updated). leaves (toldOf (x .answer)) (withSession (x .session) y) (a .buffer)) full
 
   cleared : (s : State) → WellFormed s → Begins (s .settings) (B s clear .state)
@@ -148,12 +110,14 @@ module _ (B : Box) (F : Follows B) where
       let e = F .follows s clear _ tt (paper.by-call (calling.clears w)) in
       record { settings = rw e refl; well = rw e (session-put s clearedSession cleared-well w); cleared = rw e refl }
 
-  set : (s : State) (t : Settings) → Settable t → Begins t (B s (new-setting t) .state) × (B s (new-setting t) .state .received ≡ 0) × (B s (new-setting t) .state .sent ≡ 0)
+  set : (s : State) (t : Settings) → Settable t → Begins t (B s (new-setting t) .state) × (B s (new-setting t) .state .received ≡ 0)
+      × (B s (new-setting t) .state .sent ≡ 0)
   set s t g =
       let e = F .follows s (new-setting t) _ (g .handed) (paper.by-call (calling.setting-starts t (startOf t) (g .valid) (fresh-own t))) in
       (record { settings = rw e refl; well = rw e (starts .well t (g .valid)); cleared = rw e refl }, rw e refl, rw e refl)
 
-  kept : (s : State) (cs : List Call) → WellFormed s → Each OnWire cs → Each NoSetting cs → WellFormed (run B s cs) × (run B s cs .settings ≡ s .settings)
+  kept : (s : State) (cs : List Call) → WellFormed s → Each OnWire cs → Each NoSetting cs → WellFormed (run B s cs)
+      × (run B s cs .settings ≡ s .settings)
   kept s cs w u k =
       let e = whole .all s cs u k in
       let h = keeps-to B F s cs (e .0) (e .1) u k s (record { start = w; well = w; settings = refl }) in
@@ -169,12 +133,14 @@ module _ (B : Box) (F : Follows B) where
     intervals = λ n s cs es c. intervals-are n s cs es c;
     later = λ n s cs es a c many u l. later-refused n s cs es c a many u l;
     same = λ n n′ s s′ cs cs′ es es′ c c′ e. (
-      first-answers n s cs es c ∙ ap (λ (l : List Readings). map toldOf (account.answers afterReading clearedSession l)) e ∙ sym (first-answers n′ s′ cs′ es′ c′),
+      first-answers n s cs es c ∙ ap (λ (l : List Readings). map toldOf (account.answers afterReading clearedSession l)) e
+          ∙ sym (first-answers n′ s′ cs′ es′ c′),
       first-session n s cs es c ∙ ap (account.leaves afterReading clearedSession) e ∙ sym (first-session n′ s′ cs′ es′ c′),
     );
     counts = counts B F;
     tied = λ n s cs es xs c p g h.
-        agrees n s cs es c near (beside xs (take most (oursAt n es))) (shown most es n xs p) (sound xs (take most (oursAt n es)) g (rising most es n) h);
+        agrees n s cs es c near (beside xs (take most (oursAt n es))) (shown most es n xs p)
+        (sound xs (take most (oursAt n es)) g (rising most es n) h);
   }
 
 pub meets : Meets

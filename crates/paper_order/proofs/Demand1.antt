@@ -5,11 +5,11 @@ use mathlib.Core.List.{List, [], _∷_}
 use native.Mathlib.Omega.{arith}
 use Rattle.base_clock.specs.Run.{after}
 use Rattle.state_settings.specs.Settings.{Settings}
-use Rattle.loss_reading.proofs.Laws.{sessions}
+use Rattle.loss_reading.proofs.Refusals.{sessions}
 use Rattle.loss_lent.proofs.Lends.{lends}
 use Rattle.frame_reader.proofs.Numbers.{reader-numbers}
-use Rattle.stored_settings.proofs.Records.{settings-records}
-use Rattle.stored_line.proofs.Calls.{loss-records}
+use Rattle.stored_settings.proofs.SettingsRecords.{settings-records}
+use Rattle.stored_line.proofs.LineRecords.{loss-records}
 use Rattle.state_view.specs.State.{State}
 use Rattle.state_view.specs.WellFormed.{WellFormed}
 use Rattle.paper_said.specs.Calls.{Call, new-setting, frame, tick, clear, send-LMM, send-DMM, conditions, Answer, refused, HandedOut, nothing, Outcome, leaves, OnWire, NoSetting, Box}

@@ -1,4 +1,5 @@
 pub mod Demand1
 pub mod Memory
+pub mod Sent
 pub mod Demand2
 pub mod Kept

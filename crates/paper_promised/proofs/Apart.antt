@@ -1,52 +1,33 @@
--- Which refusal or drop an answer is, so that two answers are told apart. Assumes nothing.
+-- Which kind an answer is of, and which refusal or drop, so that two answers are told apart. Assumes nothing.
 use Prim.Native.Nat.{ℕ}
-use mathlib.Core.Bool.{Bool, true, false}
+use mathlib.Core.Bool.{Bool}
+use lib.Dec.{eqb}
 use Rattle.paper_said.specs.Calls.{Answer, refused, dropped, passed, taken, written, loss, delay, delays, done, standing}
 
-unfoldable pub refusalIn : Answer → ℕ
-refusalIn (refused n) = n
-refusalIn (dropped n) = 0
-refusalIn passed = 0
-refusalIn taken = 0
-refusalIn (written n) = 0
-refusalIn (loss near far) = 0
-refusalIn (delay twoway) = 0
-refusalIn (delays twoway far near) = 0
-refusalIn done = 0
-refusalIn (standing r) = 0
+-- a number for each kind, and the answer's own number where it is a refusal or a drop
+unfoldable pub codeOf : Answer → ℕ × ℕ
+codeOf (refused n) = (0, n)
+codeOf (dropped n) = (1, n)
+codeOf passed = (2, 0)
+codeOf taken = (3, 0)
+codeOf (written n) = (4, 0)
+codeOf (loss near far) = (5, 0)
+codeOf (delay twoway) = (6, 0)
+codeOf (delays twoway far near) = (7, 0)
+codeOf done = (8, 0)
+codeOf (standing r) = (9, 0)
 
-unfoldable pub isRefused : Answer → Bool
-isRefused (refused n) = true
-isRefused (dropped n) = false
-isRefused passed = false
-isRefused taken = false
-isRefused (written n) = false
-isRefused (loss near far) = false
-isRefused (delay twoway) = false
-isRefused (delays twoway far near) = false
-isRefused done = false
-isRefused (standing r) = false
+abbrev pub numberIn : Answer → ℕ
+numberIn r = codeOf r .1
 
-unfoldable pub dropIn : Answer → ℕ
-dropIn (dropped n) = n
-dropIn (refused n) = 0
-dropIn passed = 0
-dropIn taken = 0
-dropIn (written n) = 0
-dropIn (loss near far) = 0
-dropIn (delay twoway) = 0
-dropIn (delays twoway far near) = 0
-dropIn done = 0
-dropIn (standing r) = 0
+abbrev pub isRefused : Answer → Bool
+isRefused r = eqb (codeOf r .0) 0
 
-unfoldable pub isDropped : Answer → Bool
-isDropped (dropped n) = true
-isDropped (refused n) = false
-isDropped passed = false
-isDropped taken = false
-isDropped (written n) = false
-isDropped (loss near far) = false
-isDropped (delay twoway) = false
-isDropped (delays twoway far near) = false
-isDropped done = false
-isDropped (standing r) = false
+abbrev pub isDropped : Answer → Bool
+isDropped r = eqb (codeOf r .0) 1
+
+abbrev pub isWritten : Answer → Bool
+isWritten r = eqb (codeOf r .0) 4
+
+abbrev pub isDone : Answer → Bool
+isDone r = eqb (codeOf r .0) 8

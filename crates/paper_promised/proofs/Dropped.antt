@@ -1,7 +1,7 @@
 -- Drops, and that OAM frames are not counted. Assumes nothing.
 use Prim.Native.Nat.{ℕ}
 use mathlib.Core.Path.{_≡_, refl, ap}
-use mathlib.Core.Bool.{true, false, false≢true}
+use mathlib.Core.Bool.{false≢true}
 use Rattle.frame_head.specs.Head.{etherTypeOf}
 use Rattle.state_view.specs.State.{State}
 use Rattle.state_view.specs.Changed.{put}
@@ -17,11 +17,11 @@ use Rattle.paper_said.specs.Called as calling
 use Rattle.paper_said.specs.Said.{Said}
 use Rattle.paper_promised.specs.Refusals as table
 use Rattle.paper_promised.specs.Refusals.{Remembered, handed}
-use Rattle.paper_promised.proofs.Apart.{dropIn, isDropped}
-use Rattle.paper_promised.proofs.Refused.{sentence}
+use Rattle.paper_promised.proofs.Apart.{codeOf, isDropped}
 
-pub drops : {s : State} {c : Call} {o : Outcome} → Said s c o → (m : ℕ) → o .answer ≡ dropped m → (Remembered s c → ⊥) → (o .state ≡ s) × (o .buffer ≡ handed c)
-unfolding dropIn isDropped
+pub drops : {s : State} {c : Call} {o : Outcome} → Said s c o → (m : ℕ) → o .answer ≡ dropped m → (Remembered s c → ⊥) → (o .state ≡ s)
+    × (o .buffer ≡ handed c)
+unfolding codeOf
 drops (said.by-rules-1-to-4 (judging.frame-2 a v)) N E H = absurd (false≢true (ap isDropped E))
 drops (said.by-rules-1-to-4 (judging.frame-1 a v n)) N E H = absurd (false≢true (ap isDropped E))
 drops (said.by-rules-1-to-4 (judging.frame-6-receive a v l g)) N E H = absurd (false≢true (ap isDropped E))
@@ -79,7 +79,8 @@ remembered (table.lower-ccm a o e k g) = said.by-rules-1-to-4 (judging.rule-3-cc
 
 -- ── OAM frames are not counted ──
 
-pub uncounted : {s : State} {a : Arrival} {o : Outcome} → Said s (call.frame a) o → etherTypeOf (a .octets) ≡ 0x8902 → (o .state .sent ≡ s .sent) × (o .state .received ≡ s .received)
+pub uncounted : {s : State} {a : Arrival} {o : Outcome} → Said s (call.frame a) o → etherTypeOf (a .octets) ≡ 0x8902
+    → (o .state .sent ≡ s .sent) × (o .state .received ≡ s .received)
 uncounted (said.by-rules-1-to-4 (judging.frame-2 a v)) E = (refl, refl)
 uncounted (said.by-rules-1-to-4 (judging.frame-1 a v n)) E = (refl, refl)
 uncounted (said.by-rules-1-to-4 (judging.frame-6-receive a v l g)) E = (refl, refl)

@@ -17,7 +17,7 @@ use Rattle.loss_session.specs.declared.Readings.{Readings}
 use Rattle.loss_session.specs.declared.LossSession.{LossSession}
 use Rattle.loss_session.specs.Session as Session
 use Rattle.loss_reading.specs.Reading.{afterReading}
-use Rattle.loss_reading.proofs.Laws.{sessions}
+use Rattle.loss_reading.proofs.Refusals.{sessions}
 use Rattle.state_view.specs.State.{State}
 use Rattle.state_view.specs.Changed.{Word, placeOf, anew, put, heard}
 use Rattle.state_view.specs.WellFormed.{ownMost, alarmMost, WellFormed}

@@ -1,5 +1,6 @@
 pub mod Kept
 pub mod Apart
+pub mod Example
 pub mod Refused
 pub mod Dropped
 pub mod Never

@@ -11,7 +11,7 @@ use lib.Seq.{length-take-le, getD-take}
 use borrow.Author.Tests.{le-leb, lt-leb, eq-eqb, ne-eqb, ltb-true, ltb-false}
 use Rattle.base_laws.specs.Tests.{choose}
 use Rattle.base_laws.specs.Lists.{absent, placeOf, same}
-use Rattle.base_laws.proofs.Lists.{same-is, absent-is, place-holds, place-first, place-absent}
+use Rattle.base_laws.proofs.Meanings.{same-is, absent-is, place-holds, place-first, place-absent}
 use Rattle.base_laws.proofs.Tests.{known as if-known}
 use Rattle.state_settings.specs.Valid.{Valid}
 use Rattle.frame_ccm.specs.Ccm.{ccmIn, megIn}

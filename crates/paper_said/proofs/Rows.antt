@@ -35,38 +35,27 @@ found x (y ∷ l) e =
 
 -- ── each handled opcode's row ──
 
-pub row-least : {op least : ℕ} → Handled op least → ruleOf op .least ≡ least
+-- the box knows it, handles it, and asks the least that the paper asks
+row : {op least : ℕ} → Handled op least → (ruleOf op .known ≡ true) × (ruleOf op .handled ≡ true) × (ruleOf op .least ≡ least)
 unfolding ruleOf choose
-row-least ccm = refl
-row-least lbm = refl
-row-least ais = refl
-row-least lck = refl
-row-least lmr = refl
-row-least lmm = refl
-row-least dmr = refl
-row-least dmm = refl
+row ccm = (refl, refl, refl)
+row lbm = (refl, refl, refl)
+row ais = (refl, refl, refl)
+row lck = (refl, refl, refl)
+row lmr = (refl, refl, refl)
+row lmm = (refl, refl, refl)
+row dmr = (refl, refl, refl)
+row dmm = (refl, refl, refl)
 
-pub row-handled : {op least : ℕ} → Handled op least → ruleOf op .handled ≡ true
-unfolding ruleOf choose
-row-handled ccm = refl
-row-handled lbm = refl
-row-handled ais = refl
-row-handled lck = refl
-row-handled lmr = refl
-row-handled lmm = refl
-row-handled dmr = refl
-row-handled dmm = refl
+module _ {op least : ℕ} (h : Handled op least) where
+  pub row-known : ruleOf op .known ≡ true
+  row-known = row h .0
 
-pub row-known : {op least : ℕ} → Handled op least → ruleOf op .known ≡ true
-unfolding ruleOf choose
-row-known ccm = refl
-row-known lbm = refl
-row-known ais = refl
-row-known lck = refl
-row-known lmr = refl
-row-known lmm = refl
-row-known dmr = refl
-row-known dmm = refl
+  pub row-handled : ruleOf op .handled ≡ true
+  row-handled = row h .1
+
+  pub row-least : ruleOf op .least ≡ least
+  row-least = row h .2
 
 -- the eight of the list are the eight rows
 pub first : {x y : ℕ} {l : List ℕ} → OneOf x (y ∷ l) → (x ≡ y) ⊎ OneOf x l
@@ -77,12 +66,20 @@ pub none : {x : ℕ} → OneOf x [] → ⊥
 unfolding every
 none o = true≢false (listed o)
 
-row-of : (op : ℕ) → OneOf op (1 ∷ 3 ∷ 33 ∷ 35 ∷ 42 ∷ 43 ∷ 46 ∷ 47 ∷ []) → (least : ℕ) × Handled op least
-row-of op o0 =
-    ⊎-elim (λ (e : op ≡ 1). rw e (70, ccm)) (λ (o1 : OneOf op (3 ∷ 33 ∷ 35 ∷ 42 ∷ 43 ∷ 46 ∷ 47 ∷ [])). ⊎-elim (λ (e : op ≡ 3). rw e (4, lbm)) (λ (o2 : OneOf op (33 ∷ 35 ∷ 42 ∷ 43 ∷ 46 ∷ 47 ∷ [])). ⊎-elim (λ (e : op ≡ 33). rw e (0, ais)) (λ (o3 : OneOf op (35 ∷ 42 ∷ 43 ∷ 46 ∷ 47 ∷ [])). ⊎-elim (λ (e : op ≡ 35). rw e (0, lck)) (λ (o4 : OneOf op (42 ∷ 43 ∷ 46 ∷ 47 ∷ [])). ⊎-elim (λ (e : op ≡ 42). rw e (12, lmr)) (λ (o5 : OneOf op (43 ∷ 46 ∷ 47 ∷ [])). ⊎-elim (λ (e : op ≡ 43). rw e (12, lmm)) (λ (o6 : OneOf op (46 ∷ 47 ∷ [])). ⊎-elim (λ (e : op ≡ 46). rw e (32, dmr)) (λ (o7 : OneOf op (47 ∷ [])). ⊎-elim (λ (e : op ≡ 47). rw e (32, dmm)) (λ (o8 : OneOf op ([])). absurd (none o8)) (first o7)) (first o6)) (first o5)) (first o4)) (first o3)) (first o2)) (first o1)) (first o0)
+abbrev Row : ℕ → Type 0
+Row op = (least : ℕ) × Handled op least
+
+or : {x y : ℕ} {l : List ℕ} → Row y → (OneOf x l → Row x) → OneOf x (y ∷ l) → Row x
+or r f here = r
+or r f (there o) = f o
+
+row-of : (op : ℕ) → OneOf op (1 ∷ 3 ∷ 33 ∷ 35 ∷ 42 ∷ 43 ∷ 46 ∷ 47 ∷ []) → Row op
+row-of op =
+    or (70, ccm) (or (4, lbm) (or (0, ais) (or (0, lck)
+    (or (12, lmr) (or (12, lmm) (or (32, dmr) (or (32, dmm) (λ o. absurd (none o)))))))))
 
 -- an opcode that the box handles has a row, and one without a row is not handled
-pub handled-row : (op : ℕ) → ruleOf op .handled ≡ true → (least : ℕ) × Handled op least
+pub handled-row : (op : ℕ) → ruleOf op .handled ≡ true → Row op
 handled-row op h = row-of op (found op _ (not-true _ (sym (opcode-lists .handles op) ∙ h)))
 
 pub no-row : (op : ℕ) → ((least : ℕ) → Handled op least → ⊥) → ruleOf op .handled ≡ false
@@ -109,4 +106,6 @@ pub losspeer-yes : (op : ℕ) → op ≡ 42 → ruleOf op .losspeer ≡ true
 losspeer-yes op e = opcode-lists .losspeers op ∙ ap not (listed (rw e here))
 
 pub losspeer-only : (op : ℕ) → ruleOf op .losspeer ≡ true → op ≡ 42
-losspeer-only op e = ⊎-elim (λ (h : op ≡ 42). h) (λ (q : OneOf op []). absurd (none q)) (first (found op _ (not-true _ (sym (opcode-lists .losspeers op) ∙ e))))
+losspeer-only op e =
+    let one = found op _ (not-true _ (sym (opcode-lists .losspeers op) ∙ e)) in
+    ⊎-elim (λ (h : op ≡ 42). h) (λ (q : OneOf op []). absurd (none q)) (first one)

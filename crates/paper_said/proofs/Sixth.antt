@@ -5,7 +5,7 @@ use mathlib.Core.Logic.{⊎-elim, _⊎_, inl, inr}
 use lib.Dec.{eqb}
 use borrow.Author.Tests.{eqb-true, eq-eqb, not-true, not-false}
 use Rattle.base_laws.specs.Lists.{same}
-use Rattle.base_laws.proofs.Lists.{same-is}
+use Rattle.base_laws.proofs.Meanings.{same-is}
 use Rattle.base_laws.proofs.Tests.{known as if-known, split, join, either-true}
 use Rattle.frame_opcodes.specs.Opcodes.{ruleOf}
 use Rattle.frame_head.specs.Head.{destinationOf, sourceOf}

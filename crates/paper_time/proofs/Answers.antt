@@ -18,7 +18,7 @@ use Rattle.paper_said.specs.Said.{Said}
 use Rattle.paper_time.specs.Timers.{mismerge, unexpected-level, unexpected-mep, unexpected-period, ais, lck, Timer, peer, of, Used}
 use Rattle.paper_time.specs.Time.{Beat, sends, quiet, shown, Told, told, Stands}
 use Rattle.paper_time.proofs.Timers.{timerOf}
-use Rattle.paper_time.proofs.Lines.{Holds}
+use Rattle.paper_time.proofs.Changes.{Holds}
 
 flag-to : {P Q : Type 0} {n : ℕ} → (P → Q) → (Q → P) → Flag P n → Flag Q n
 flag-to f g (on p) = on (f p)

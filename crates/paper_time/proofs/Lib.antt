@@ -1,7 +1,10 @@
 pub mod Asked
 pub mod Timers
+pub mod Changes
 pub mod Lines
+pub mod Ticked
 pub mod Steps
+pub mod Sets
 pub mod Runs
 pub mod Answers
 pub mod Meets

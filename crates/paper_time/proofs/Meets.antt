@@ -33,8 +33,10 @@ use Rattle.paper_time.specs.Timers.{mismerge, unexpected-level, unexpect
 use Rattle.paper_time.specs.Timers.{Used, atStart, Sets, Unset}
 use Rattle.paper_time.specs.Time.{Beat, Told, Stands, Time}
 use Rattle.paper_time.proofs.Timers.{timerOf}
-use Rattle.paper_time.proofs.Lines.{Holds}
-use Rattle.paper_time.proofs.Steps.{passing, Good, ticked, stays, next-moves, moves, set-to, by-paper}
+use Rattle.paper_time.proofs.Changes.{Holds}
+use Rattle.paper_time.proofs.Ticked.{passing, Good}
+use Rattle.paper_time.proofs.Steps.{ticked, stays, next-moves, moves, by-paper}
+use Rattle.paper_time.proofs.Sets.{set-to}
 use Rattle.paper_time.proofs.Runs.{passes-ticks, passes-no-set, all-split, all-both, some-tick, all-good}
 use Rattle.paper_time.proofs.Answers.{beat-to, runs-stands, told-line}
 

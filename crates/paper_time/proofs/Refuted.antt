@@ -1,66 +1,32 @@
 -- Boxes that are out of time, by a setting and runs that are written out. Assumes nothing.
 use Prim.Native.Nat.{ℕ, _%_, _≤_, _∣_}
 use mathlib.Core.Path.{_≡_, refl, ap, subst}
-use mathlib.Core.Bool.{Bool, true, false, cond, false≢true}
+use mathlib.Core.Bool.{Bool, true, cond, false≢true}
 use mathlib.Core.List.{List, [], _∷_}
 use native.Mathlib.Omega.{arith}
 use native.Mathlib.Nat.{mod-eq-zero-of-dvd, dvd-mul-left}
 use lib.ListN.{length, replicate}
-use Rattle.base_laws.specs.Lists.{every, everyPair, distinct}
-use Rattle.base_octets.proofs.Written.{octets-of}
 use Rattle.base_clock.specs.Run.{after}
 use Rattle.base_period.specs.Periods.{ticksOf}
-use Rattle.state_settings.specs.Settings.{Settings}
-use Rattle.state_settings.specs.Valid.{valid}
-use Rattle.state_peer_ids.specs.Ids.{peersGood}
 use Rattle.state_settings.proofs.Rules.{valid-is}
 use Rattle.state_view.specs.State.{State}
 use Rattle.state_view.specs.Changed.{next}
 use Rattle.state_view.specs.WellFormed.{WellFormed}
-use Rattle.call_setting.specs.Start.{startOf, zeroState}
-use Rattle.call_setting.proofs.Starts.{starts}
+use Rattle.call_setting.specs.Start.{zeroState}
 use Rattle.paper_said.specs.Calls as call
-use Rattle.paper_said.specs.Calls.{Call, Answer, refused, written, done, Outcome, NoSetting, Box}
-use Rattle.paper_said.specs.Started.{Settable}
+use Rattle.paper_said.specs.Calls.{Call, Answer, refused, done, Outcome, NoSetting, Box}
 use Rattle.paper_said.specs.Said as said
 use Rattle.paper_said.specs.Called as calling
 use Rattle.paper_said.specs.Said.{Said}
 use Rattle.paper_said.specs.Ours.{ours}
 use Rattle.paper_said.proofs.Follows.{ours-follows}
 use Rattle.paper_promised.proofs.Kept.{put-well}
+use Rattle.paper_promised.proofs.Apart.{codeOf, isWritten}
+use Rattle.paper_promised.proofs.Example.{setting, good, settable, start, well}
 use Rattle.paper_time.specs.Runs.{Fits, ticksIn}
 use Rattle.paper_time.specs.Time.{Beat, sends, quiet, Time}
 use Rattle.paper_time.specs.Wrong.{sooner, early, OutOfTime}
 use Rattle.paper_time.proofs.Steps.{by-paper}
-
--- level 4, MEP ID 9, period code 1 (2 ticks), one peer
-setting : Settings
-setting = record {
-  level = 4;
-  mep = 9;
-  period = 1;
-  count = 1;
-  own = 2 ∷ 0 ∷ 0 ∷ 0 ∷ 0 ∷ 1 ∷ [];
-  losspeer = 2 ∷ 0 ∷ 0 ∷ 0 ∷ 0 ∷ 2 ∷ [];
-  meg = replicate 48 0;
-  ids = 7 ∷ 0 ∷ 0 ∷ 0 ∷ 0 ∷ 0 ∷ 0 ∷ 0 ∷ [];
-}
-
-is-valid : valid setting ≡ true
-unfolding setting valid peersGood every everyPair distinct
-is-valid = refl
-
-good : Settable setting
-unfolding setting every
-good = record {
-  handed = record {
-    shape = record { own = refl; losspeer = refl; meg = refl; ids = refl };
-    own = octets-of (setting .own) refl;
-    losspeer = octets-of (setting .losspeer) refl;
-    meg = octets-of (setting .meg) refl;
-  };
-  valid = valid-is .valid-is setting .0 is-valid;
-}
 
 abbrev room : List ℕ
 room = replicate 89 0
@@ -70,25 +36,13 @@ once = call.tick room
 
 -- ── what an answer shows ──
 
-isSent : Answer → Bool
-isSent (refused n) = false
-isSent (call.dropped n) = false
-isSent call.passed = false
-isSent call.taken = false
-isSent (written n) = true
-isSent (call.loss n f) = false
-isSent (call.delay d) = false
-isSent (call.delays d f n) = false
-isSent done = false
-isSent (call.standing r) = false
-
-sent-then : {P : Type 0} {r : Answer} → Beat P r → isSent r ≡ true → P
-unfolding isSent
+sent-then : {P : Type 0} {r : Answer} → Beat P r → isWritten r ≡ true → P
+unfolding codeOf
 sent-then (sends p) e = p
 sent-then (quiet n) e = absurd (false≢true e)
 
-then-sent : {P : Type 0} {r : Answer} → Beat P r → P → isSent r ≡ true
-unfolding isSent
+then-sent : {P : Type 0} {r : Answer} → Beat P r → P → isWritten r ≡ true
+unfolding codeOf
 then-sent (sends p) q = refl
 then-sent (quiet n) q = absurd (n q)
 
@@ -106,29 +60,37 @@ begun B = B zeroState (call.new-setting setting) .state
 
 -- and of this box
 abbrev short : State
-short = sooner (startOf setting)
+short = sooner start
 
 begins-short : begun early ≡ short
-begins-short = ap (λ (b : Bool). cond b (call.hands-out done short short) (ours zeroState (call.new-setting setting)) .state) is-valid
+begins-short =
+    ap (λ (b : Bool). cond b (call.hands-out done short short) (ours zeroState (call.new-setting setting)) .state)
+    (valid-is .valid-is setting .1 good)
 
 short-well : WellFormed short
-unfolding setting ticksOf
-short-well = put-well (startOf setting) next _ (record { own = λ h. absurd (omega arith); alarm = λ h k. absurd (omega arith); some = λ e. omega arith; next = λ e. omega arith }) (starts .well setting (good .valid))
+unfolding ticksOf
+short-well =
+    put-well start next _ (record {
+      own = λ h. absurd (omega arith);
+      alarm = λ h k. absurd (omega arith);
+      some = λ e. omega arith;
+      next = λ e. omega arith;
+    }) well
 
-sends-line : {b : List ℕ} {o : Outcome} → 89 ≤ length b → Said short (call.tick b) o → isSent (o .answer) ≡ true
-unfolding isSent setting ticksOf
+sends-line : {b : List ℕ} {o : Outcome} → 89 ≤ length b → Said short (call.tick b) o → isWritten (o .answer) ≡ true
+unfolding codeOf ticksOf
 sends-line h (said.by-call (calling.tick-2 b n)) = absurd (n short-well)
 sends-line h (said.by-call (calling.tick-lowers b w l)) = absurd (omega (arith, l))
 sends-line h (said.by-call (calling.tick-3 b w e l)) = absurd (omega (arith, h, l))
 sends-line h (said.by-call (calling.tick-sends b rdi w e l f)) = refl
 
-sends-short : isSent (ours short once .answer) ≡ true
-sends-short = by-paper (ours-follows .box) short once tt (λ o. isSent (o .answer) ≡ true) (λ o p. sends-line (omega arith) p)
+sends-short : isWritten (ours short once .answer) ≡ true
+sends-short = by-paper (ours-follows .box) short once tt (λ o. isWritten (o .answer) ≡ true) (λ o p. sends-line (omega arith) p)
 
 a-tick-early : Time early → ⊥
-unfolding after Fits ticksIn setting ticksOf
+unfolding after Fits ticksIn ticksOf
 a-tick-early T =
-    let b : Beat (2 ∣ 1) (early (begun early) once .answer) = T .beats zeroState setting [] room good tt (λ d. omega arith) in
+    let b : Beat (2 ∣ 1) (early (begun early) once .answer) = T .beats zeroState setting [] room settable tt (λ d. omega arith) in
     let c : Beat (2 ∣ 1) (early short once .answer) = subst (λ (z : State). Beat (2 ∣ 1) (early z once .answer)) begins-short b in
     odd (sent-then c sends-short)
 
@@ -136,12 +98,12 @@ a-tick-early T =
 
 refuses-ticks : (B : Box) → ((s : State) (b : List ℕ) → (n : ℕ) × (B s (call.tick b) .answer ≡ refused n)) → Time B → ⊥
 refuses-ticks B all T =
-    let r = all (startOf setting) room in
-    T .takes (startOf setting) room (r .0) (starts .well setting (good .valid)) (λ e. omega arith) (r .1)
+    let r = all start room in
+    T .takes start room (r .0) well (λ e. omega arith) (r .1)
 
-no-room : (B : Box) → (n : ℕ) × (B (startOf setting) (call.tick []) .answer ≡ refused n) → Time B → ⊥
-unfolding setting ticksOf
-no-room B r T = T .takes (startOf setting) [] (r .0) (starts .well setting (good .valid)) (λ e. absurd (omega (arith, e))) (r .1)
+no-room : (B : Box) → (n : ℕ) × (B start (call.tick []) .answer ≡ refused n) → Time B → ⊥
+unfolding ticksOf
+no-room B r T = T .takes start [] (r .0) well (λ e. absurd (omega (arith, e))) (r .1)
 
 -- ── touches nothing: the two ticks after the setting meet the same state, and only the second sends ──
 
@@ -152,12 +114,12 @@ no-setting b t e =
     omega (arith, n)
 
 two-ticks : (B : Box) → B (begun B) once .state ≡ begun B → Time B → ⊥
-unfolding after Fits ticksIn setting ticksOf
+unfolding after Fits ticksIn ticksOf
 two-ticks B same T =
     let y : State = begun B in
-    let first : Beat (2 ∣ 1) (B y once .answer) = T .beats zeroState setting [] room good tt (λ d. omega arith) in
+    let first : Beat (2 ∣ 1) (B y once .answer) = T .beats zeroState setting [] room settable tt (λ d. omega arith) in
     let second : Beat (2 ∣ 2) (B (B y once .state) once .answer) =
-    T .beats zeroState setting (once ∷ []) room good ((λ d. omega arith), tt) (λ d. omega arith) in
+    T .beats zeroState setting (once ∷ []) room settable ((λ d. omega arith), tt) (λ d. omega arith) in
     let again : Beat (2 ∣ 2) (B y once .answer) = subst (λ (z : State). Beat (2 ∣ 2) (B z once .answer)) same second in
     odd (sent-then first (then-sent again (dvd-mul-left 2 1)))
 
@@ -165,6 +127,6 @@ pub out-of-time : OutOfTime
 out-of-time = record {
   a-tick-early = a-tick-early;
   refuses-ticks = refuses-ticks;
-  wants-room = λ B all T. no-room B (all (startOf setting) [] (omega arith)) T;
+  wants-room = λ B all T. no-room B (all start [] (omega arith)) T;
   touches-nothing = λ B all T. two-ticks B (all (begun B) once (no-setting room)) T;
 }

@@ -19,8 +19,9 @@ use Rattle.paper_said.specs.Calls as call
 use Rattle.paper_said.specs.Calls.{Call, OnWire, Box}
 use Rattle.paper_said.specs.Ours.{Follows}
 use Rattle.paper_time.specs.Runs.{Fits, Each, ticksIn, step}
-use Rattle.paper_time.proofs.Lines.{Holds}
-use Rattle.paper_time.proofs.Steps.{passing, Good, stays, next-moves}
+use Rattle.paper_time.proofs.Changes.{Holds}
+use Rattle.paper_time.proofs.Ticked.{passing, Good}
+use Rattle.paper_time.proofs.Steps.{stays, next-moves}
 
 -- ── events ──
 

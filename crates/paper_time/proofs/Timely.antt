@@ -23,8 +23,9 @@ use Rattle.paper_time.specs.Timers.{Timer, Used, atStart, Sets, Unset}
 use Rattle.paper_time.specs.Timers as sets
 use Rattle.paper_time.specs.Time.{LastSet, unset, split, Timely}
 use Rattle.paper_time.proofs.Timers.{timerOf}
-use Rattle.paper_time.proofs.Lines.{Holds}
-use Rattle.paper_time.proofs.Steps.{ticked, stays, either, set-to}
+use Rattle.paper_time.proofs.Changes.{Holds}
+use Rattle.paper_time.proofs.Steps.{ticked, stays, either}
+use Rattle.paper_time.proofs.Sets.{set-to}
 use Rattle.paper_time.proofs.Meets.{at-start, start-timer, in-time}
 
 -- a period's hold time is some ticks

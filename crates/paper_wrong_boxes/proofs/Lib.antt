@@ -1,1 +1,5 @@
+pub mod Frames
+pub mod Replies
+pub mod Counts
+pub mod Signs
 pub mod Refuted

@@ -1,5 +1,5 @@
 -- The statement of specs/Session.antt, and the fields laid behind one another. Assumes nothing.
-use Prim.Native.Nat.{ℕ, _+_, _^_, _≤_, _<_}
+use Prim.Native.Nat.{ℕ, _+_, _≤_}
 use mathlib.Core.Path.{_≡_, refl, sym, ap, _∙_}
 use mathlib.Core.List.{List, [], _++_, append-assoc, append-nil}
 use native.Mathlib.Omega.{arith}
@@ -8,15 +8,14 @@ use lib.ListN.{length, length-append}
 use mir.Syntax.{w64}
 use mir.Val.{SFits, toZ, ofZ}
 use Rattle.base_laws.specs.Lists.{part, laid}
-use Rattle.base_laws.proofs.Lists.{part-append, part-all, part-here}
+use Rattle.base_laws.proofs.Parts.{part-among, part-next, part-whole}
 use Rattle.base_laws.proofs.Apart.{laid-whole}
 use Rattle.base_laws.proofs.Pieces.{first, more}
 use Rattle.base_octets.specs.Octets.{Octets}
-use Rattle.base_numbers.specs.Numbers.{littleEndian, number, inOctets}
-use Rattle.base_numbers.proofs.Laws.{length-octets, number-here, read-again}
+use Rattle.base_numbers.specs.Numbers.{littleEndian, number}
+use Rattle.base_numbers.proofs.Laws.{length-octets, number-among, read-again}
 use Rattle.base_signed.proofs.Laws.{signed-octets, signed-again}
 use Rattle.loss_session.specs.declared.LossSession.{LossSession}
-use Rattle.loss_session.specs.Session.{readings}
 use Rattle.replay_session.specs.Session.{field, fieldAt, signed, signedAt, sessionOctets, sessionAt, FieldsHold, SessionsInOctets}
 
 pub session-long : (s : LossSession) → length (sessionOctets s) ≡ 37
@@ -25,52 +24,19 @@ session-long s = simp (length-append, length-octets)
 
 -- ── octets from their session ──
 
-module _ (octets : List ℕ) (l : length octets ≡ 37) where
-  -- the fields side by side are all the octets
-  parts-again : {kept txf rxf txb ours near far intervals : List ℕ}
-      → kept ≡ part 0 1 octets
-      → txf ≡ part 1 4 octets
-      → rxf ≡ part 5 4 octets
-      → txb ≡ part 9 4 octets
-      → ours ≡ part 13 4 octets
-      → near ≡ part 17 8 octets
-      → far ≡ part 25 8 octets
-      → intervals ≡ part 33 4 octets
-      → kept ++ txf ++ rxf ++ txb ++ ours ++ near ++ far ++ intervals ≡ octets
-  parts-again e1 e2 e3 e4 e5 e6 e7 e8 =
-      rw (
-        e1,
-        e2,
-        e3,
-        e4,
-        e5,
-        e6,
-        e7,
-        e8,
-        ← part-append 0 1 4 octets,
-        ← part-append 0 5 4 octets,
-        ← part-append 0 9 4 octets,
-        ← part-append 0 13 4 octets,
-        ← part-append 0 17 8 octets,
-        ← part-append 0 25 8 octets,
-        ← part-append 0 33 4 octets,
-      )
-      (ap (λ (n : ℕ). part 0 n octets) (sym l) ∙ part-all octets)
-
+-- each field spelled again is the part that it was read from, and the parts side by side are all the octets
 pub again : (octets : List ℕ) → length octets ≡ 37 → Octets octets → sessionOctets (sessionAt octets) ≡ octets
 unfolding sessionOctets
 again octets l h =
     let number-again : (k at : ℕ) → at + k ≤ 37 → field k (fieldAt at k octets) ≡ part at k octets =
     λ k at fits. read-again littleEndian k at octets (omega arith) h in
-    parts-again octets l
-    (number-again 1 0 (omega arith))
-    (number-again 4 1 (omega arith))
-    (number-again 4 5 (omega arith))
-    (number-again 4 9 (omega arith))
-    (number-again 4 13 (omega arith))
-    (signed-again 17 octets (omega arith) h)
-    (signed-again 25 octets (omega arith) h)
-    (number-again 4 33 (omega arith))
+    let p1 = part-next octets 0 1 4 (number-again 1 0 (omega arith)) (number-again 4 1 (omega arith)) in
+    let p2 = part-next octets 0 5 4 p1 (number-again 4 5 (omega arith)) in
+    let p3 = part-next octets 0 9 4 p2 (number-again 4 9 (omega arith)) in
+    let p4 = part-next octets 0 13 4 p3 (number-again 4 13 (omega arith)) in
+    let p5 = part-next octets 0 17 8 p4 (signed-again 17 octets (omega arith) h) in
+    let p6 = part-next octets 0 25 8 p5 (signed-again 25 octets (omega arith) h) in
+    part-next octets 0 33 4 p6 (number-again 4 33 (omega arith)) ∙ part-whole 37 octets l
 
 -- ── the fields laid ──
 
@@ -125,34 +91,31 @@ module _ (s : LossSession) where
   abbrev intervals : List ℕ
   intervals = field 4 (s .intervals)
 
-  number-there : (p q : List ℕ) (at k v : ℕ) → sessionOctets s ≡ p ++ field k v ++ q → length p ≡ at → v < 256 ^ k → fieldAt at k (sessionOctets s) ≡ v
-  number-there p q at k v e hp small = ap (fieldAt at k) e ∙ number-here littleEndian k v p q at hp small
-
   signed-there : (p q : List ℕ) (at : ℕ) (v : ℤ) → sessionOctets s ≡ p ++ signed v ++ q → length p ≡ at → SFits w64 v → signedAt at (sessionOctets s) ≡ v
   signed-there p q at v e hp fits =
-      ap (λ (m : List ℕ). toZ w64 (number littleEndian m)) (ap (part at 8) e ∙ part-here p (signed v) q at 8 hp (length-octets littleEndian 8 (ofZ w64 v)))
+      ap (λ (m : List ℕ). toZ w64 (number littleEndian m)) (part-among p (signed v) q at 8 e hp (length-octets littleEndian 8 (ofZ w64 v)))
       ∙ signed-octets v fits
 
   module _ (h : FieldsHold s) where
     kept-here : fieldAt 0 1 (sessionOctets s) ≡ s .kept
     unfolding sessionOctets
-    kept-here = number-there [] (txf ++ rxf ++ txb ++ ours ++ near ++ far ++ intervals) 0 1 (s .kept) (simp append-assoc) refl (h .kept)
+    kept-here = number-among littleEndian 1 (s .kept) [] (txf ++ rxf ++ txb ++ ours ++ near ++ far ++ intervals) 0 (simp append-assoc) refl (h .kept)
 
     txf-here : fieldAt 1 4 (sessionOctets s) ≡ s .last .txf
     unfolding sessionOctets
-    txf-here = number-there kept (rxf ++ txb ++ ours ++ near ++ far ++ intervals) 1 4 (s .last .txf) (simp append-assoc) (simp length-octets) (h .txf)
+    txf-here = number-among littleEndian 4 (s .last .txf) kept (rxf ++ txb ++ ours ++ near ++ far ++ intervals) 1 (simp append-assoc) (simp length-octets) (h .txf)
 
     rxf-here : fieldAt 5 4 (sessionOctets s) ≡ s .last .rxf
     unfolding sessionOctets
-    rxf-here = number-there (kept ++ txf) (txb ++ ours ++ near ++ far ++ intervals) 5 4 (s .last .rxf) (simp append-assoc) (simp (length-append, length-octets)) (h .rxf)
+    rxf-here = number-among littleEndian 4 (s .last .rxf) (kept ++ txf) (txb ++ ours ++ near ++ far ++ intervals) 5 (simp append-assoc) (simp (length-append, length-octets)) (h .rxf)
 
     txb-here : fieldAt 9 4 (sessionOctets s) ≡ s .last .txb
     unfolding sessionOctets
-    txb-here = number-there (kept ++ txf ++ rxf) (ours ++ near ++ far ++ intervals) 9 4 (s .last .txb) (simp append-assoc) (simp (length-append, length-octets)) (h .txb)
+    txb-here = number-among littleEndian 4 (s .last .txb) (kept ++ txf ++ rxf) (ours ++ near ++ far ++ intervals) 9 (simp append-assoc) (simp (length-append, length-octets)) (h .txb)
 
     ours-here : fieldAt 13 4 (sessionOctets s) ≡ s .last .ours
     unfolding sessionOctets
-    ours-here = number-there (kept ++ txf ++ rxf ++ txb) (near ++ far ++ intervals) 13 4 (s .last .ours) (simp append-assoc) (simp (length-append, length-octets)) (h .ours)
+    ours-here = number-among littleEndian 4 (s .last .ours) (kept ++ txf ++ rxf ++ txb) (near ++ far ++ intervals) 13 (simp append-assoc) (simp (length-append, length-octets)) (h .ours)
 
     near-here : signedAt 17 (sessionOctets s) ≡ s .near
     unfolding sessionOctets
@@ -164,32 +127,20 @@ module _ (s : LossSession) where
 
     intervals-here : fieldAt 33 4 (sessionOctets s) ≡ s .intervals
     unfolding sessionOctets
-    intervals-here = number-there (kept ++ txf ++ rxf ++ txb ++ ours ++ near ++ far) [] 33 4 (s .intervals) (sym (append-nil _)) (simp (length-append, length-octets)) (h .intervals)
-
--- a session made of its parts
-made : (s : LossSession) {kept txf rxf txb ours intervals : ℕ} {near far : ℤ}
-    → kept ≡ s .kept
-    → txf ≡ s .last .txf
-    → rxf ≡ s .last .rxf
-    → txb ≡ s .last .txb
-    → ours ≡ s .last .ours
-    → near ≡ s .near
-    → far ≡ s .far
-    → intervals ≡ s .intervals
-    → record { kept = kept; last = readings txf rxf txb ours; near = near; far = far; intervals = intervals } ≡ s
-made s e1 e2 e3 e4 e5 e6 e7 e8 = rw (e1, e2, e3, e4, e5, e6, e7, e8)
+    intervals-here = number-among littleEndian 4 (s .intervals) (kept ++ txf ++ rxf ++ txb ++ ours ++ near ++ far) [] 33 (sym (append-nil _)) (simp (length-append, length-octets)) (h .intervals)
 
 pub back : (s : LossSession) → FieldsHold s → sessionAt (sessionOctets s) ≡ s
 back s h =
-    made s
-    (kept-here s h)
-    (txf-here s h)
-    (rxf-here s h)
-    (txb-here s h)
-    (ours-here s h)
-    (near-here s h)
-    (far-here s h)
-    (intervals-here s h)
+    rw (
+      kept-here s h,
+      txf-here s h,
+      rxf-here s h,
+      txb-here s h,
+      ours-here s h,
+      near-here s h,
+      far-here s h,
+      intervals-here s h,
+    )
 
 pub sessions-in-octets : SessionsInOctets
 sessions-in-octets = record { long = session-long; again = again; back = back }

@@ -1,13 +1,13 @@
 -- The statement of specs/State.antt, and the pieces of a state laid behind one another. Assumes nothing.
 use Prim.Native.Nat.{ℕ, _+_, _*_, _≤_}
-use mathlib.Core.Path.{_≡_, refl, sym, ap, _∙_}
+use mathlib.Core.Path.{_≡_, refl, ap, _∙_}
 use mathlib.Core.List.{List, [], _∷_, _++_, append-nil}
 use native.Mathlib.Nat.{add-zero}
 use native.Mathlib.Omega.{arith}
 use lib.ListN.{length, drop, length-append, length-drop}
 use lib.Seq.{getD-drop}
 use Rattle.base_laws.specs.Lists.{part, laid}
-use Rattle.base_laws.proofs.Lists.{part-append, part-all, part-drop, length-part}
+use Rattle.base_laws.proofs.Parts.{part-append, part-next, part-whole, part-drop, length-part}
 use Rattle.base_laws.proofs.Apart.{laid-whole}
 use Rattle.base_laws.proofs.Pieces.{first, more}
 use Rattle.base_octets.specs.Octets.{Octets}
@@ -131,26 +131,14 @@ module _ (octets : List ℕ) where
         ≡ part 81 76 octets
     unfolding runningOctets
     running-again =
-        rw (
-          counts-again,
-          words-here 4 8 89 (omega arith),
-          words-here 1 8 121 (omega arith),
-          others-again,
-          ← part-append 81 8 32 octets,
-          ← part-append 81 40 8 octets,
-          ← part-append 81 48 28 octets,
-        )
+        let p1 = part-next octets 81 8 32 counts-again (words-here 4 8 89 (omega arith)) in
+        let p2 = part-next octets 81 40 8 p1 (words-here 1 8 121 (omega arith)) in
+        part-next octets 81 48 28 p2 others-again
 
-    -- three parts side by side are all the octets
-    parts-again : {first second third : List ℕ} → first ≡ part 0 81 octets → second ≡ part 81 76 octets → third ≡ part 157 37 octets
-        → first ++ second ++ third ≡ octets
-    parts-again e1 e2 e3 =
-        rw (e1, e2, e3, ← part-append 0 81 76 octets, ← part-append 0 157 37 octets)
-        (ap (λ (n : ℕ). part 0 n octets) (sym l) ∙ part-all octets)
-
+    -- the parts side by side are all the octets
     state-again : stateOctets (stateAt octets) ≡ octets
     unfolding stateOctets
-    state-again = parts-again settings-again running-again session-again
+    state-again = part-next octets 0 157 37 (part-next octets 0 81 76 settings-again running-again) session-again ∙ part-whole 194 octets l
 
     pub put-shown : stateOctets (shown (arraysOf (stateAt octets))) ≡ octets
     put-shown = ap stateOctets (lies (omega arith)) ∙ state-again

@@ -8,7 +8,8 @@ use native.Mathlib.Numerals.{add-one}
 use lib.ListN.{length, getD, set, take, drop, length-append, length-drop}
 use lib.Seq.{drop-at, getD-drop, take-suc, length-take-le}
 use Rattle.base_laws.specs.Lists.{part, laid}
-use Rattle.base_laws.proofs.Lists.{part-none, part-append, part-drop, laid-none, laid-more, laid-next}
+use Rattle.base_laws.proofs.Parts.{part-none, part-append, part-drop}
+use Rattle.base_laws.proofs.Overlaid.{laid-none, laid-more, laid-next}
 use Rattle.base_laws.proofs.Apart.{laid-whole}
 use Rattle.base_octets.specs.Octets.{Octets}
 use Rattle.base_numbers.specs.Numbers.{littleEndian}

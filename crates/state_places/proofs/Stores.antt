@@ -4,12 +4,16 @@ use mathlib.Core.Path.{_≡_, refl, ap, sym, _∙_}
 use mathlib.Core.List.{List, map}
 use lib.IntN.{ℤ, pos}
 use lib.ListN.{length, set}
+use Rattle.base_laws.specs.Ended.{ended}
 use Rattle.base_laws.specs.Lists.{onFirst}
+use Rattle.base_laws.proofs.Ended.{answer-is, state-is, buffer-is}
 use Rattle.base_laws.proofs.Spelled.{spelled, by-elements}
 use Rattle.loss_session.specs.declared.LossSession.{LossSession}
-use Rattle.state_view.specs.State.{runWords, lossTotals, State, viewOf, runOf, totalsOf}
+use Rattle.state_view.specs.declared.StateArrays.{StateArrays}
+use Rattle.state_view.specs.State.{runWords, lossTotals, State, viewOf, shown, runOf, totalsOf}
+use Rattle.state_view.specs.Arguments.{anew}
 use Rattle.state_view.specs.Changed.{Word, mismerge, unexpected-level, unexpected-mep, unexpected-period, ais, lck, next, sent, received, placeOf, put, withSession, lowered}
-use Rattle.state_places.specs.Stored.{Stores}
+use Rattle.state_places.specs.Stored.{Whole, Stores}
 
 -- what holds of running words that are spelled holds of any, and so of totals
 by-words : (P : List ℕ → Type 0) (run : List ℕ) → length run ≡ runWords → P (spelled 0 runWords run) → P run
@@ -87,3 +91,19 @@ stores st names ids = record {
         ∙ totals-back st names ids timers′ rdi′ run′ totals′ (w′ .both),
   );
 }
+
+-- The law `one` on the arrays held together: those of h as x has them anew, and as y has. Two outcomes with one state leave one content of
+-- each array.
+module _ (h x y : StateArrays) where
+  abbrev with : StateArrays → StateArrays
+  with z = anew h (z .timers) (z .rdi) (z .run) (z .totals)
+
+  pub lies-once : Whole (x .run) (x .totals) → Whole (y .run) (y .totals) → shown (with x) ≡ shown (with y) → with x ≡ with y
+  lies-once w w′ e =
+      let o = stores (h .set) (h .names) (h .ids) .one
+      (x .timers) (x .rdi) (x .run) (x .totals) (y .timers) (y .rdi) (y .run) (y .totals) w w′ e in
+      λ i. anew h (o .0 i) (o .1 i) (o .2 i) (o .3 i)
+
+  pub ends-once : {A : Type 0} {r r′ : A} {b b′ : List ℕ} → Whole (x .run) (x .totals) → Whole (y .run) (y .totals)
+      → ended r (shown (with x)) b ≡ ended r′ (shown (with y)) b′ → (r ≡ r′) × (with x ≡ with y) × (b ≡ b′)
+  ends-once w w′ e = (answer-is e, lies-once w w′ (state-is e), buffer-is e)

@@ -1,9 +1,9 @@
 -- The statement of specs/Valid.antt: the test holds exactly where the rules do. Assumes nothing.
-use Prim.Native.Nat.{ℕ, _+_, _-_, _%_, _≤_, _<_}
-use mathlib.Core.Path.{_≡_, refl, sym, ap, _∙_}
+use Prim.Native.Nat.{ℕ, _+_, _-_, _≤_, _<_}
+use mathlib.Core.Path.{_≡_, sym, ap, _∙_}
 use mathlib.Core.List.{List}
-use mathlib.Core.Bool.{Bool, true, false, _&&_, not, false≢true}
-use mathlib.Core.Logic.{_↔_, ⊎-elim}
+use mathlib.Core.Bool.{true, false, _&&_, not, false≢true}
+use mathlib.Core.Logic.{⊎-elim}
 use native.Mathlib.Omega.{arith}
 use lib.Dec.{leb, eqb, ltb}
 use lib.ListN.{length, getD, take, drop, length-drop, List·getD-eq-default}
@@ -11,7 +11,8 @@ use lib.Seq.{length-take-le, getD-take, getD-drop}
 use borrow.Author.Tests.{le-leb, leb-true, eq-eqb, eqb-true, ne-eqb, eqb-false, not-true, ltb-true, ltb-false}
 use Rattle.base_laws.specs.Lists.{every, same, distinct}
 use Rattle.base_laws.proofs.Tests.{known, split, join}
-use Rattle.base_laws.proofs.Lists.{every-is, same-is, distinct-is}
+use Rattle.base_laws.proofs.Everywhere.{every-is}
+use Rattle.base_laws.proofs.Meanings.{same-is, distinct-is}
 use Rattle.base_words.specs.Words.{within}
 use Rattle.state_settings.specs.Settings.{Settings}
 use Rattle.state_settings.specs.Valid.{IsMepId, groupBit, Valid, numbersGood, addressesGood, valid, ValidIs}

@@ -5,7 +5,7 @@ use mathlib.Core.List.{List}
 use native.Mathlib.Omega.{arith}
 use lib.ListN.{length, take}
 use lib.Seq.{length-take-le}
-use Rattle.base_laws.proofs.Lists.{length-part}
+use Rattle.base_laws.proofs.Parts.{length-part}
 use Rattle.state_settings.specs.Settings.{
   slots,
   settingsOf,

@@ -2,8 +2,8 @@
 use Prim.Native.Nat.{ℕ, zero, suc, _<_, _≤_}
 use mathlib.Core.Path.{_≡_, sym, ap, _∙_}
 use mathlib.Core.List.{List, [], _∷_}
-use mathlib.Core.Bool.{Bool, true, false, not, _||_, false≢true}
-use mathlib.Core.Logic.{_⊎_, inl, inr, ⊎-elim}
+use mathlib.Core.Bool.{Bool, true, not, _||_, false≢true}
+use mathlib.Core.Logic.{inl, inr, ⊎-elim}
 use native.Mathlib.Omega.{arith}
 use lib.Dec.{ltb}
 use lib.ListN.{length, getD, take}
@@ -11,9 +11,10 @@ use lib.Seq.{getD-take}
 use borrow.Author.Tests.{ltb-true, ltb-false, lt-ltb, not-true}
 use Rattle.base_laws.specs.Lists.{absent, placeOf}
 use Rattle.base_laws.proofs.Tests.{known, either-true}
-use Rattle.base_laws.proofs.Lists.{absent-is, place-most, place-holds, place-absent}
+use Rattle.base_laws.proofs.Meanings.{absent-is, place-most, place-holds, place-absent}
 use Rattle.state_view.specs.State.{State}
-use Rattle.state_standing.specs.Standing.{Stands, lost, mismerge, unexpected-level, unexpected-mep, unexpected-period, ais, lck, usedTimers, runs, standing, StandingIs}
+use Rattle.state_standing.specs.Standing.{Stands, lost, mismerge, unexpected-level, unexpected-mep, unexpected-period, ais, lck}
+use Rattle.state_standing.specs.Standing.{usedTimers, runs, standing, StandingIs}
 
 -- ── a used slot whose timer is 0 ──
 

@@ -1,17 +1,16 @@
 -- The statement of specs/WellFormed.antt: the test holds exactly where the rules do. Assumes nothing.
-use Prim.Native.Nat.{ℕ, _+_, _-_, _≤_, _<_, zero-le}
-use mathlib.Core.Path.{_≡_, sym, ap, _∙_}
+use Prim.Native.Nat.{ℕ, _+_, _-_, _≤_, zero-le}
+use mathlib.Core.Path.{_≡_, ap, _∙_}
 use mathlib.Core.List.{List}
-use mathlib.Core.Bool.{Bool, true, _&&_}
-use mathlib.Core.Logic.{_↔_}
+use mathlib.Core.Bool.{true, _&&_}
 use native.Mathlib.Omega.{arith}
 use lib.Dec.{leb}
-use lib.ListN.{length, getD, drop}
+use lib.ListN.{getD, drop}
 use lib.Seq.{getD-drop}
 use borrow.Author.Tests.{le-leb, leb-true}
 use Rattle.base_laws.specs.Lists.{every}
 use Rattle.base_laws.proofs.Tests.{split, join}
-use Rattle.base_laws.proofs.Lists.{every-is, every-anywhere}
+use Rattle.base_laws.proofs.Everywhere.{every-is, every-anywhere}
 use Rattle.base_words.specs.Words.{within}
 use Rattle.base_period.specs.Periods.{ticksOf}
 use Rattle.state_settings.specs.Valid.{valid}

@@ -10,7 +10,7 @@ use lib.ListN.{length, length-append}
 use mir.Syntax.{w64}
 use mir.Val.{toZ, ofZ, SFits}
 use Rattle.base_laws.specs.Lists.{part, laid}
-use Rattle.base_laws.proofs.Lists.{part-append, part-here}
+use Rattle.base_laws.proofs.Parts.{part-append, part-here}
 use Rattle.base_laws.proofs.Apart.{part-part, laid-whole}
 use Rattle.base_laws.proofs.Pieces.{first, more}
 use Rattle.base_laws.proofs.Stored.{fits-size}

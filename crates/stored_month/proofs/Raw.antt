@@ -1,15 +1,12 @@
 -- Raw replies read back as the readings they were made of. Assumes nothing.
-use Prim.Native.Nat.{ℕ, zero, suc, _+_, _*_, _/_, _%_, _^_, _≤_, _<_}
-use mathlib.Core.Path.{_≡_, refl, sym, ap, ap₂, _∙_}
+use Prim.Native.Nat.{ℕ, _*_, _/_, _^_, _<_}
+use mathlib.Core.Path.{_≡_, refl, ap, ap₂, _∙_}
 use mathlib.Core.List.{List, [], _∷_, _++_, map, append-assoc}
 use native.Mathlib.Omega.{arith}
-use native.Mathlib.Nat.{mod-lt}
-use lib.ListN.{length, drop, length-append}
+use lib.ListN.{length, length-append}
 use lib.Seq.{drop-at}
-use Rattle.base_laws.specs.Lists.{part}
-use Rattle.base_laws.proofs.Lists.{part-here}
-use Rattle.base_numbers.specs.Numbers.{littleEndian, number, inOctets}
-use Rattle.base_numbers.proofs.Laws.{length-octets, number-back, number-here}
+use Rattle.base_numbers.specs.Numbers.{littleEndian, inOctets}
+use Rattle.base_numbers.proofs.Laws.{length-octets, number-among}
 use Rattle.loss_session.specs.declared.Readings.{Readings}
 use Rattle.loss_session.specs.Session.{Side, readings, near, far, sentOf, receivedOf}
 use Rattle.stored_sheet.specs.Sheet.{joined}
@@ -41,15 +38,11 @@ module _ (r : Readings) (rest : List ℕ) where
   pub reply-back : ((side : Side) → (sentOf side r < 2 ^ 32) × (receivedOf side r < 2 ^ 32)) → readingsIn (rawReply r ++ rest) ≡ r
   unfolding rawReply
   reply-back small =
-      let e1 : (a ++ b ++ c ++ d) ++ rest ≡ [] ++ a ++ (b ++ c ++ d ++ rest) = simp append-assoc in
-      let e2 : (a ++ b ++ c ++ d) ++ rest ≡ a ++ b ++ (c ++ d ++ rest) = simp append-assoc in
-      let e3 : (a ++ b ++ c ++ d) ++ rest ≡ (a ++ b) ++ c ++ (d ++ rest) = simp append-assoc in
-      let e4 : (a ++ b ++ c ++ d) ++ rest ≡ (a ++ b ++ c) ++ d ++ rest = simp append-assoc in
-      let n1 = ap (λ (l : List ℕ). number littleEndian (part 0 4 l)) e1 ∙ number-here littleEndian 4 (r .txf) [] (b ++ c ++ d ++ rest) 0 refl (small far .0) in
-      let n2 = ap (λ (l : List ℕ). number littleEndian (part 4 4 l)) e2 ∙ number-here littleEndian 4 (r .rxf) a (c ++ d ++ rest) 4 (length-octets littleEndian 4 (r .txf)) (small far .1) in
-      let n3 = ap (λ (l : List ℕ). number littleEndian (part 8 4 l)) e3 ∙ number-here littleEndian 4 (r .txb) (a ++ b) (d ++ rest) 8 (simp (length-append, length-octets)) (small near .0) in
-      let n4 = ap (λ (l : List ℕ). number littleEndian (part 12 4 l)) e4 ∙ number-here littleEndian 4 (r .ours) (a ++ b ++ c) rest 12 (simp (length-append, length-octets)) (small near .1) in
-      made r n1 n2 n3 n4
+      made r
+      (number-among littleEndian 4 (r .txf) [] (b ++ c ++ d ++ rest) 0 (simp append-assoc) refl (small far .0))
+      (number-among littleEndian 4 (r .rxf) a (c ++ d ++ rest) 4 (simp append-assoc) (length-octets littleEndian 4 (r .txf)) (small far .1))
+      (number-among littleEndian 4 (r .txb) (a ++ b) (d ++ rest) 8 (simp append-assoc) (simp (length-append, length-octets)) (small near .0))
+      (number-among littleEndian 4 (r .ours) (a ++ b ++ c) rest 12 refl (simp (length-append, length-octets)) (small near .1))
 
 raws-long : (rs : List Readings) → length (rawReplies rs) ≡ length rs * 16
 unfolding joined

@@ -1,3 +1,4 @@
+pub mod RecordTest
 pub mod Laws
 pub mod Writing
 pub mod One

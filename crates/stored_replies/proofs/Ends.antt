@@ -2,7 +2,7 @@
 use Prim.Native.Nat.{ℕ, _/_, _≤_, _<_}
 use mathlib.Core.Path.{_≡_, refl, sym, ap, _∙_}
 use mathlib.Core.List.{List}
-use mathlib.Core.Bool.{true, false, true≢false}
+use mathlib.Core.Bool.{true, false}
 use mathlib.Core.Logic.{_⊎_, inl, inr, ⊎-elim}
 use native.Mathlib.Omega.{arith}
 use lib.Dec.{ltb}
@@ -10,10 +10,10 @@ use lib.ListN.{length}
 use borrow.Author.Tests.{ltb-true, ltb-false}
 use Rattle.base_laws.specs.Ended.{Wrote, wrote}
 use Rattle.base_laws.specs.Lists.{laid}
-use Rattle.base_laws.proofs.Tests.{known}
+use Rattle.base_laws.proofs.Tests.{known, failed}
 use Rattle.loss_session.specs.declared.LossSession.{LossSession}
 use Rattle.loss_session.specs.Session.{WellFormed, wellFormed}
-use Rattle.loss_reading.proofs.Laws.{sessions}
+use Rattle.loss_reading.proofs.Refusals.{sessions}
 use Rattle.stored_replies.specs.Replies.{replies, worked}
 use Rattle.stored_replies.specs.Recount.{refusedWith, workedAnswer, recountInto}
 use Rattle.stored_replies.proofs.Turns.{ends-not-well, ends-no-room, ends-worked}
@@ -61,13 +61,10 @@ module _ (s : LossSession) (octets buffer : List ℕ) where
       roomy g (inl h) = way-3 g (ltb-true _ _ h) (ends-no-room s octets buffer g (ltb-true _ _ h))
       roomy g (inr h) = way-on g (ltb-false _ _ h) (ends-worked s octets buffer (worked s (replies octets)) g (ltb-false _ _ h) refl refl)
 
-  not-well : wellFormed s ≡ false → WellFormed s → ⊥
-  not-well f w = true≢false (sym (sessions .well s .1 w) ∙ f)
-
   -- ── refusals ──
 
   pub two-to : Way → o .answer .refusal ≡ 2 → WellFormed s → ⊥
-  two-to (way-2 g e) h w = not-well g w
+  two-to (way-2 g e) h w = failed (sessions .well s) g w
   two-to (way-3 g r e) h w = omega (arith, refusal-is e, h)
   two-to (way-on g r e) h w = omega (arith, refusal-is e, h)
 
@@ -82,7 +79,7 @@ module _ (s : LossSession) (octets buffer : List ℕ) where
   three-to (way-on g r e) h = absurd (omega (arith, refusal-is e, h))
 
   pub three-from : Way → WellFormed s × (length buffer / 24 < count) → o .answer .refusal ≡ 3
-  three-from (way-2 g e) w = absurd (not-well g (w .0))
+  three-from (way-2 g e) w = absurd (failed (sessions .well s) g (w .0))
   three-from (way-3 g r e) w = sym (refusal-is e)
   three-from (way-on g r e) w = absurd (omega (arith, r, w .1))
 

@@ -14,7 +14,8 @@ use Rattle.loss_reading.specs.declared.LossTold.{LossTold}
 use Rattle.loss_reading.specs.declared.Updated.{Updated}
 use Rattle.loss_reading.specs.Reading.{afterReading}
 use Rattle.loss_reading.specs.Told.{told, numbersOf}
-use Rattle.loss_reading.proofs.Laws.{Case, bad, begins, stops, measures, cases, sessions}
+use Rattle.loss_reading.proofs.Laws.{Case, bad, begins, stops, measures, cases}
+use Rattle.loss_reading.proofs.Refusals.{sessions}
 use Rattle.loss_reading.proofs.Numbers.{told-numbers}
 use Rattle.stored_line.specs.Line.{lineRecord}
 use Rattle.stored_replies.specs.Replies.{readingsIn, repliesIn, replies, lineOf, Worked, stopped, behind, worked}

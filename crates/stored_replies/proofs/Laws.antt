@@ -1,37 +1,36 @@
 -- Replies in octets and what working through them gives, reply by reply. Assumes nothing.
-use Prim.Native.Nat.{ℕ, zero, suc, _+_, _-_, _*_, _/_, _≤_, _<_}
-use mathlib.Core.Path.{_≡_, refl, sym, ap, ap₂, _∙_}
-use mathlib.Core.List.{List, [], _∷_, _++_, append-nil, append-assoc}
-use mathlib.Core.Bool.{Bool, true, false, cond, true≢false}
-use mathlib.Core.Logic.{_⊎_, inl, inr, ⊎-elim}
+use Prim.Native.Nat.{ℕ, zero, suc, _+_, _-_, _*_, _≤_, _<_}
+use mathlib.Core.Path.{_≡_, refl, ap, ap₂, _∙_}
+use mathlib.Core.List.{List, [], _∷_, _++_, append-assoc}
+use mathlib.Core.Bool.{true, false}
+use mathlib.Core.Logic.{⊎-elim}
 use native.Mathlib.Omega.{arith}
 use native.Mathlib.Nat.{add-zero, zero-add}
-use lib.Dec.{eqb}
 use lib.IntN.{ℤ}
-use lib.ListN.{length, drop, replicate, length-append, length-drop}
+use lib.ListN.{length, drop, length-drop}
 use lib.Seq.{drop-drop, drop-append-le}
-use borrow.Author.Tests.{eqb-true, eqb-false, eq-eqb, ne-eqb}
+use borrow.Author.Tests.{eqb-false, eq-eqb, ne-eqb}
 use Rattle.base_laws.specs.Ended.{wrote}
 use Rattle.base_laws.proofs.Ended.{buffer-is}
 use Rattle.base_laws.specs.Tests.{choose}
-use Rattle.base_laws.specs.Lists.{part, laid}
+use Rattle.base_laws.specs.Lists.{part}
 use Rattle.base_laws.proofs.Tests.{known}
-use Rattle.base_laws.proofs.Lists.{part-drop}
+use Rattle.base_laws.proofs.Parts.{part-drop}
 use Rattle.base_laws.proofs.Apart.{part-front, laid-whole}
 use Rattle.base_numbers.specs.Numbers.{littleEndian, number}
 use Rattle.loss_session.specs.declared.Readings.{Readings}
 use Rattle.loss_session.specs.declared.LossSession.{LossSession}
-use Rattle.loss_session.specs.Session.{Side, near, far, WellFormed, wellFormed}
+use Rattle.loss_session.specs.Session.{near, far, wellFormed}
 use Rattle.loss_reading.specs.Reading.{afterReading}
 use Rattle.loss_reading.specs.Told.{numbersOf}
-use Rattle.loss_reading.proofs.Laws.{sessions}
+use Rattle.loss_reading.proofs.Refusals.{sessions}
 use Rattle.stored_record.specs.declared.RecordAnswer.{RecordAnswer}
 use Rattle.stored_line.specs.declared.LossLine.{LossLine}
 use Rattle.stored_line.specs.Line.{KeepsRules, lineRecord}
 use Rattle.stored_line.specs.Calls.{writeLine}
 use Rattle.stored_line.proofs.Laws.{line-long}
-use Rattle.stored_line.proofs.Calls.{loss-records}
-use Rattle.stored_replies.specs.Replies.{countAt, readingsIn, repliesIn, lineOf, Worked, stopped, behind, worked}
+use Rattle.stored_line.proofs.LineRecords.{loss-records}
+use Rattle.stored_replies.specs.Replies.{readingsIn, repliesIn, lineOf, Worked, stopped, behind, worked}
 
 -- ── a reply in octets ──
 

@@ -11,7 +11,7 @@ use Rattle.base_laws.specs.Ended.{wrote}
 use Rattle.base_laws.specs.Lists.{laid}
 use Rattle.loss_session.specs.declared.LossSession.{LossSession}
 use Rattle.loss_session.specs.Session.{WellFormed, wellFormed, mostIntervals}
-use Rattle.loss_reading.proofs.Laws.{sessions}
+use Rattle.loss_reading.proofs.Refusals.{sessions}
 use Rattle.stored_replies.specs.declared.Recounted.{Recounted}
 use Rattle.stored_replies.specs.Replies.{replies, Worked, worked}
 use Rattle.stored_replies.specs.Recount.{workedAnswer, recountInto, stillTakes}

@@ -10,8 +10,8 @@ use borrow.Author.Tests.{lt-ltb, le-ltb}
 use Rattle.base_laws.specs.Ended.{wrote}
 use Rattle.base_laws.specs.Tests.{choose}
 use Rattle.base_laws.specs.Lists.{laid}
-use Rattle.base_laws.proofs.Lists.{laid-none, length-laid}
-use Rattle.base_laws.proofs.Pieces.{Has, first, more}
+use Rattle.base_laws.proofs.Overlaid.{laid-none, length-laid}
+use Rattle.base_laws.proofs.Pieces.{first, more}
 use Rattle.loss_session.specs.declared.Readings.{Readings}
 use Rattle.loss_session.specs.declared.LossSession.{LossSession}
 use Rattle.loss_session.specs.Session.{wellFormed}

@@ -1,2 +1,4 @@
-pub mod Records
+pub mod SettingsWays
+pub mod SettingsReads
+pub mod SettingsRecords
 pub mod One

@@ -5,7 +5,7 @@ use mathlib.Core.List.{List}
 use native.Mathlib.Omega.{arith}
 use lib.ListN.{length, length-append}
 use Rattle.base_laws.specs.Lists.{part, laid}
-use Rattle.base_laws.proofs.Lists.{length-part}
+use Rattle.base_laws.proofs.Parts.{length-part}
 use Rattle.base_laws.proofs.Apart.{laid-whole}
 use Rattle.base_laws.proofs.Pieces.{first, more}
 use Rattle.base_numbers.specs.Numbers.{littleEndian}

@@ -1,13 +1,13 @@
 -- The statement of specs/Lying.antt. Assumes nothing.
-use Prim.Native.Nat.{ℕ, _+_}
+use Prim.Native.Nat.{ℕ}
 use mathlib.Core.Path.{_≡_, refl, sym, ap, _∙_}
-use mathlib.Core.List.{List, [], _∷_, _++_, append-assoc, append-nil}
+use mathlib.Core.List.{List, [], _++_, append-assoc, append-nil}
 use native.Mathlib.Omega.{arith}
 use lib.ListN.{length, length-append}
-use Rattle.base_laws.specs.Lists.{part}
-use Rattle.base_laws.proofs.Lists.{part-append, part-here, part-all}
+use Rattle.base_laws.proofs.Parts.{part-append, part-here, part-whole}
 use Rattle.base_laws.proofs.Spelled.{by-elements}
-use Rattle.state_settings.specs.Settings.{Settings, settingsOf, Shaped, setWords, megOctets, megFrom, nameOctets, addressOctets, ownFrom, losspeerFrom, ownNamed, losspeerNamed, megNamed}
+use Rattle.state_settings.specs.Settings.{Settings, settingsOf, Shaped, setWords, megOctets, megFrom, nameOctets, addressOctets, ownFrom}
+use Rattle.state_settings.specs.Settings.{losspeerFrom, ownNamed, losspeerNamed, megNamed}
 use Rattle.state_settings.proofs.Shape.{lying-shaped}
 use Rattle.stored_settings_body.specs.Lying.{setOf, namesOf, Lying}
 
@@ -29,7 +29,7 @@ lying-again : (set names ids : List ℕ) → length set ≡ setWords → length 
     → (setOf (settingsOf set names ids) ≡ set) × (namesOf (settingsOf set names ids) ≡ names)
 lying-again set names ids hs hn = (
   words-back set names ids hs,
-  ap (λ (l : List ℕ). l ++ megNamed names) (sym (part-append ownFrom addressOctets addressOctets names)) ∙ sym (part-append ownFrom megFrom megOctets names) ∙ ap (λ (k : ℕ). part 0 k names) (sym hn) ∙ part-all names,
+  ap (λ (l : List ℕ). l ++ megNamed names) (sym (part-append ownFrom addressOctets addressOctets names)) ∙ sym (part-append ownFrom megFrom megOctets names) ∙ part-whole _ names hn,
 )
 
 pub lying : Lying

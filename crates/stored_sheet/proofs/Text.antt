@@ -1,61 +1,25 @@
--- The text of octets, record by record: that the bound on their number does not matter, the next record, and how long it is. Assumes nothing.
+-- The text of octets, record by record: that the bound on their number does not matter, the next record, and how long it is. Assumes
+-- nothing.
 use Prim.Native.Nat.{ℕ, zero, suc, _+_, _*_, _≤_, _<_}
-use mathlib.Core.Path.{_≡_, refl, sym, ap, ap₂, _∙_}
+use mathlib.Core.Path.{_≡_, refl, ap, _∙_}
 use mathlib.Core.List.{List, [], _∷_, _++_, append-nil}
-use mathlib.Core.Bool.{Bool, true, false, _&&_, cond, true≢false}
-use mathlib.Core.Logic.{_⊎_, inl, inr, ⊎-elim}
+use mathlib.Core.Bool.{Bool, true, false, _&&_, cond}
+use mathlib.Core.Logic.{_⊎_, inl, inr}
 use native.Mathlib.Omega.{arith}
-use lib.Dec.{leb}
 use lib.IntN.{ℤ, pos}
 use lib.ListN.{length, drop, length-append, length-drop}
-use borrow.Author.Tests.{leb-true, leb-false}
 use mir.Syntax.{w64}
 use mir.Val.{SFits}
 use Rattle.base_laws.proofs.Tests.{known}
 use Rattle.base_laws.proofs.Stored.{fits-size}
 use Rattle.base_number_text.specs.Decimal.{decimal}
 use Rattle.base_number_text.proofs.Decimal.{decimals}
-use Rattle.stored_record.specs.Record.{NoRecord, cut-short}
 use Rattle.stored_line.specs.declared.LossLine.{LossLine}
-use Rattle.stored_line.specs.declared.LineAnswer.{LineAnswer}
-use Rattle.stored_line.specs.declared.LineAnswer.the-variants.{Refused, Line}
-use Rattle.stored_line.specs.Line.{KeepsRules}
 use Rattle.stored_line.specs.Calls.{readLine}
 use Rattle.stored_line.proofs.Laws.{near-fits, far-fits}
-use Rattle.stored_line.proofs.Calls.{loss-records}
-use Rattle.stored_sheet.specs.Sheet.{refusedText, lineText, answerText, isLine, textWithin, goodWithin, textOf, allGood, longestLine}
-
--- ── an answer is one or the other ──
-
-pub data Read (octets : List ℕ) : Type 0 where
-  a-line : (line : LossLine) → readLine octets ≡ Line line → Read octets
-  refused : readLine octets ≡ Refused → Read octets
-
-pub read : (octets : List ℕ) → Read octets
-read octets = by (readLine octets) refl
-  where
-    by : (answer : LineAnswer) → readLine octets ≡ answer → Read octets
-    by Refused e = refused e
-    by (Line line) e = a-line line e
-
-pub is-line : (octets : List ℕ) (line : LossLine) → readLine octets ≡ Line line → isLine (readLine octets) ≡ true
-unfolding isLine
-is-line octets line e = ap isLine e
-
-pub is-refused : (octets : List ℕ) → readLine octets ≡ Refused → isLine (readLine octets) ≡ false
-unfolding isLine
-is-refused octets e = ap isLine e
-
-pub few-refused : (octets : List ℕ) → length octets < 24 → readLine octets ≡ Refused
-few-refused octets few = loss-records .refuses-7 octets .1 (inl (cut-short (omega (arith, few))))
-
--- a record that reads as a line is whole
-pub whole-record : (octets : List ℕ) → isLine (readLine octets) ≡ true → 24 ≤ length octets
-whole-record octets h =
-    ⊎-elim
-    (leb-true 24 (length octets))
-    (λ f. absurd (true≢false (sym h ∙ is-refused octets (few-refused octets (leb-false 24 (length octets) f)))))
-    (known (leb 24 (length octets)))
+use Rattle.stored_line.proofs.LineRecords.{loss-records}
+use Rattle.stored_sheet.specs.Sheet.{lineText, answerText, isLine, textWithin, goodWithin, textOf, allGood, longestLine}
+use Rattle.stored_sheet.proofs.LineOrNot.{Read, a-line, refused, read, whole-record}
 
 -- ── the bound does not matter ──
 

@@ -1,3 +1,4 @@
+pub mod LinePieces
 pub mod Turns
 pub mod Chunks
 pub mod One

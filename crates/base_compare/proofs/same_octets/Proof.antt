@@ -5,8 +5,8 @@ use native.Mathlib.Omega.{arith}
 use denote.Ref.{now}
 use lib.Dec.{eqb}
 use lib.ListN.{length}
-use Rattle.base_laws.proofs.Loops.{PairsJoined, pairs-start, pairs-next, pairs-all, pair-lengths}
 use Rattle.base_laws.proofs.Places.{at}
+use Rattle.base_laws.proofs.Compared.{PairsJoined, pairs-start, pairs-next, pairs-all, pair-lengths}
 use borrow.Author.Needs.{needs}
 use Rattle.base_compare.proofs.same_octets.Statement.{statement}
 use Rattle.base_compare.proofs.same_octets.Tie as tie

@@ -8,8 +8,9 @@ use mathlib.Core.Bool.{Bool, _&&_, not}
 use mathlib.Core.List.{List}
 use borrow.Author.Tests.{not-true, not-false}
 use Rattle.base_laws.specs.Lists.{absent, distinct}
-use Rattle.base_laws.proofs.Loops.{part-rest, distinct-turn, distinct-end}
+use Rattle.base_laws.proofs.Loops.{part-rest}
 use Rattle.base_laws.proofs.Places.{at}
+use Rattle.base_laws.proofs.Compared.{distinct-turn, distinct-end}
 use borrow.Author.Needs.{needs}
 use Rattle.base_distinct.proofs.all_distinct.Statement.{statement}
 use Rattle.base_distinct.proofs.all_distinct.Tie as tie

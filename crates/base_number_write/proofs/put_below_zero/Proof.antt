@@ -7,7 +7,7 @@ use borrow.Author.Needs.{needs}
 use denote.Ref.{now}
 use lib.ListN.{set}
 use Rattle.base_number_text.specs.Decimal.{digitsOf}
-use Rattle.base_number_text.proofs.Decimal.{is}
+use Rattle.base_number_text.proofs.Digits.{is}
 use Rattle.base_number_text.proofs.Put.{put-nothing, put-before, put-not-before}
 use Rattle.base_number_write.proofs.put_below_zero.Statement.{statement}
 use Rattle.base_number_write.proofs.put_below_zero.Tie as tie

@@ -8,7 +8,7 @@ use lib.ListN.{length, getD, set, take, length-set}
 use lib.Seq.{take-all}
 use Rattle.base_laws.proofs.Places.{at}
 use Rattle.base_laws.specs.Lists.{laid}
-use Rattle.base_laws.proofs.Lists.{laid-none}
+use Rattle.base_laws.proofs.Overlaid.{laid-none}
 use Rattle.base_octets.proofs.Turns.{copy-turn}
 use Rattle.base_octets.proofs.copy_octets.Statement.{statement}
 use Rattle.base_octets.proofs.copy_octets.Tie as tie

@@ -6,8 +6,8 @@ use denote.Ref.{now}
 use lib.ListN.{length, getD, drop}
 use native.Mathlib.Nat.{add-zero, add-assoc}
 use Rattle.base_laws.specs.Lists.{placeOf}
-use Rattle.base_laws.proofs.Loops.{place-found, place-next, place-end}
 use Rattle.base_laws.proofs.Places.{at}
+use Rattle.base_laws.proofs.Compared.{place-found, place-next, place-end}
 use borrow.Author.Needs.{needs}
 use Rattle.base_words.proofs.place_of.Statement.{statement}
 use Rattle.base_words.proofs.place_of.Tie as tie

@@ -6,8 +6,8 @@ use native.Mathlib.Omega.{arith}
 use denote.Ref.{now}
 use lib.ListN.{length, set}
 use Rattle.base_laws.specs.Lists.{onFirst}
-use Rattle.base_laws.proofs.Loops.{onFirst-none, onFirst-next, onFirst-all}
 use Rattle.base_laws.proofs.Places.{at}
+use Rattle.base_laws.proofs.OnFirst.{onFirst-none, onFirst-next, onFirst-all}
 use borrow.Author.Needs.{needs}
 use Rattle.call_setting.proofs.start_timers.Statement.{statement}
 use Rattle.call_setting.proofs.start_timers.Tie as tie

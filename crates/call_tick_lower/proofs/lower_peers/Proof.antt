@@ -5,7 +5,7 @@ use native.Mathlib.Omega.{arith}
 use denote.Ref.{now}
 use lib.ListN.{length}
 use Rattle.base_laws.specs.Lists.{onFirst}
-use Rattle.base_laws.proofs.Loops.{onFirst-none, onFirst-all}
+use Rattle.base_laws.proofs.OnFirst.{onFirst-none, onFirst-all}
 use Rattle.call_tick_lower.proofs.Lower.{lower-next}
 use Rattle.base_laws.proofs.Places.{at}
 use borrow.Author.Needs.{needs}

@@ -4,7 +4,7 @@ use mathlib.Core.Path.{_≡_, ap, _∙_}
 use native.Mathlib.Omega.{arith}
 use denote.Ref.{now}
 use Rattle.base_laws.specs.Lists.{onFirst}
-use Rattle.base_laws.proofs.Loops.{onFirst-none}
+use Rattle.base_laws.proofs.OnFirst.{onFirst-none}
 use Rattle.call_tick_lower.proofs.Lower.{lower-next}
 use Rattle.base_laws.proofs.Places.{at}
 use borrow.Author.Needs.{needs}

@@ -7,7 +7,7 @@ use lib.ListN.{length-drop}
 use denote.Ref.{now, ptr}
 use Rattle.base_laws.specs.Tests.{choose}
 use Rattle.base_laws.specs.Lists.{part}
-use Rattle.base_laws.proofs.Lists.{part-drop}
+use Rattle.base_laws.proofs.Parts.{part-drop}
 use Rattle.frame_opcodes.specs.Opcodes.{ruleOf}
 use Rattle.frame_head.specs.Head.{pduOf, behindHead}
 use Rattle.frame_ccm.specs.Ccm.{megIn, megOf, megPlace}

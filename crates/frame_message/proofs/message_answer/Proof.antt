@@ -8,7 +8,7 @@ use denote.Ref.{now}
 use Rattle.frame_reader_answer.specs.declared.TlvAnswer.{TlvAnswer}
 use Rattle.frame_head.specs.Head.{pduOf, opcodeOf, flagsOf}
 use Rattle.frame_message.specs.Message.{judgedOf, unlessBad, messageOf}
-use Rattle.frame_message.proofs.Goods.{headed}
+use Rattle.frame_message.proofs.GoodTests.{headed}
 use Rattle.frame_message.proofs.Numbers.{numbered}
 use Rattle.base_laws.proofs.Places.{at}
 use borrow.Author.Needs.{needs}

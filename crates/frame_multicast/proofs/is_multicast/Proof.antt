@@ -11,8 +11,8 @@ use lib.Seq.{length-take-le}
 use Rattle.base_laws.proofs.Places.{at}
 use borrow.Author.Needs.{needs}
 use Rattle.base_laws.specs.Lists.{same}
-use Rattle.base_laws.proofs.Lists.{same-last}
-use Rattle.base_laws.proofs.Loops.{pair-lengths}
+use Rattle.base_laws.proofs.Meanings.{same-last}
+use Rattle.base_laws.proofs.Compared.{pair-lengths}
 use Rattle.frame_multicast.specs.Multicast.{prefix, multicastOf}
 use Rattle.frame_multicast.proofs.is_multicast.Statement.{statement}
 use Rattle.frame_multicast.proofs.is_multicast.Tie as tie

@@ -140,8 +140,11 @@ module _ {M : Type 1} (𝓤 : URA M) (H : Heap 𝓤) (A : Atoms 𝓤) (W : Given
 module _ {M : Type 1} (𝓤 : URA M) (H : Heap 𝓤) (A : Atoms 𝓤) (W : Given 𝓤 H A) (at-mem : Memory → SProp 𝓤) (run : Routine → Fun 𝓤) where
   lent-walks : (C : Calls 𝓤 H) (Λ : Loops 𝓤 H) → FmC 𝓤 H (W .laws) C → Triple 𝓤 (C #card·answer) (Callee 𝓤 H A at-mem run) → Walks 𝓤 H A f.ended stayed (WpFn 𝓤 H C Λ code.function) (f.clauses 𝓤 H A at-mem run)
   lent-walks C Λ fm known = walked 𝓤 H A f.ended stayed (f.clauses 𝓤 H A at-mem run) (WpFn 𝓤 H C Λ code.function) (λ κs. (ptr-vals, (uint-vals w32, (uint-vals w32, (uint-vals w32, (uint-vals w32, tt)))))) (λ κs. (mut-tells (named 0) (κs .0) S.the-row, (uint-tells w32, (uint-tells w32, (uint-tells w32, (uint-tells w32, tt))))))
-      (λ κs qs bounds a _ are. via 𝓤 _ (fst∗ 𝓤 _ (emp 𝓤)) (walk 𝓤 H A W at-mem run (κs .0) (qs .0) (a .0 .ptr .0) (a .0 .ptr .1) (a .0 .name) (a .0 .now)
-      (a .1 .0) (a .1 .1 .0) (a .1 .1 .1 .0) (a .1 .1 .1 .1 .0) (are .1 .0 .1) (are .1 .1 .0 .1) (are .1 .1 .1 .0 .1) (are .1 .1 .1 .1 .0 .1) C Λ fm known))
+      (λ κs qs bounds a _ are.
+      let (h, (x0, (x1, (x2, (x3, _))))) = a in
+      let (_, (is0, (is1, (is2, (is3, _))))) = are in
+      via 𝓤 _ (fst∗ 𝓤 _ (emp 𝓤)) (walk 𝓤 H A W at-mem run (κs .0) (qs .0) (h .ptr .0) (h .ptr .1) (h .name) (h .now)
+      x0 x1 x2 x3 (is0 .1) (is1 .1) (is2 .1) (is3 .1) C Λ fm known))
 
   goes : AllGo 𝓤 H A W 1 (f.signature .params) (f.ended .kept) stayed
   goes = (goes-ref 𝓤 H A W 1 0 tt (plain (λ _. S.the-row)), (goes-none 𝓤 H A W 1 (λ _. u32) yes (λ κs x f. refl), (goes-none 𝓤 H A W 1 (λ _. u32) yes (λ κs x f. refl), (goes-none 𝓤 H A W 1 (λ _. u32) yes (λ κs x f. refl), (goes-none 𝓤 H A W 1 (λ _. u32) yes (λ κs x f. refl), tt)))))

@@ -11,7 +11,7 @@ use lib.Dec.{eqb}
 use lib.ListN.{take, drop, length-drop, length-take}
 use lib.Seq.{length-take-le}
 use Rattle.base_laws.specs.Lists.{part, same}
-use Rattle.base_laws.proofs.Loops.{pair-lengths}
+use Rattle.base_laws.proofs.Compared.{pair-lengths}
 use Rattle.state_settings.specs.Settings.{settingsOf, megOctets, megFrom, nameOctets, megNamed}
 use Rattle.receive_peer.proofs.Cases.{mismerge, unknown, other-period, peer}
 use Rattle.base_laws.proofs.Places.{at}

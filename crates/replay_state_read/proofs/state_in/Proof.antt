@@ -6,7 +6,7 @@ use mir.Syntax.{w64}
 use mir.Val.{toZ, ofZ}
 use native.Mathlib.Omega.{arith}
 use Rattle.base_laws.specs.Lists.{part}
-use Rattle.base_laws.proofs.Lists.{length-part}
+use Rattle.base_laws.proofs.Parts.{length-part}
 use Rattle.base_laws.proofs.Apart.{laid-whole}
 use borrow.Author.Needs.{needs}
 use Rattle.replay_state_read.proofs.state_in.Statement.{statement}

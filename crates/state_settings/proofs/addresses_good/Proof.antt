@@ -9,7 +9,7 @@ use lib.Dec.{eqb}
 use lib.ListN.{length, getD, take, drop}
 use lib.Seq.{length-take-le}
 use Rattle.base_laws.specs.Lists.{part, same}
-use Rattle.base_laws.proofs.Lists.{getD-part}
+use Rattle.base_laws.proofs.Parts.{getD-part}
 use Rattle.state_settings.specs.Settings.{nameOctets, addressOctets, ownFrom, losspeerFrom, ownNamed, losspeerNamed}
 use Rattle.state_settings.specs.Valid.{addressesGood}
 use Rattle.base_laws.proofs.Places.{at}

@@ -1,7 +1,7 @@
 -- `stored_line_calls::read_line` meets its contract: one law for each way that it ends.
 use denote.Ref.{now}
-use Rattle.stored_line.proofs.Calls.{ends-head, long-enough, ends-rule, ends-line}
 use Rattle.base_laws.proofs.Places.{at}
+use Rattle.stored_line.proofs.LineReads.{ends-head, long-enough, ends-rule, ends-line}
 use borrow.Author.Needs.{needs}
 use Rattle.stored_line_calls.proofs.read_line.Statement.{statement}
 use Rattle.stored_line_calls.proofs.read_line.Tie as tie

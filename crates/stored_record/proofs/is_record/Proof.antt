@@ -1,8 +1,8 @@
 -- `stored_record::is_record` meets its contract: too few octets, or the two fields of the head.
 use native.Mathlib.Omega.{arith}
 use denote.Ref.{now}
-use Rattle.stored_record.proofs.Laws.{too-short, fields-tell}
 use Rattle.base_laws.proofs.Places.{at}
+use Rattle.stored_record.proofs.RecordTest.{too-short, fields-tell}
 use borrow.Author.Needs.{needs}
 use Rattle.stored_record.proofs.is_record.Statement.{statement}
 use Rattle.stored_record.proofs.is_record.Tie as tie

@@ -2,8 +2,8 @@
 use mathlib.Core.Path.{_∙_}
 use denote.Ref.{now}
 use Rattle.base_laws.specs.Lists.{part}
-use Rattle.stored_settings.proofs.Records.{ends-head, long-enough, copied, ends-rule, ends-given}
 use Rattle.base_laws.proofs.Places.{at}
+use Rattle.stored_settings.proofs.SettingsWays.{ends-head, long-enough, copied, ends-rule, ends-given}
 use borrow.Author.Needs.{needs}
 use Rattle.stored_settings.proofs.read_settings.Statement.{statement}
 use Rattle.stored_settings.proofs.read_settings.Tie as tie

@@ -2,8 +2,8 @@
 use denote.Ref.{now}
 use Rattle.state_settings.specs.Settings.{settingsOf}
 use Rattle.state_settings.proofs.Shape.{handed-shaped}
-use Rattle.stored_settings.proofs.Records.{ends-write}
 use Rattle.base_laws.proofs.Places.{at}
+use Rattle.stored_settings.proofs.SettingsRecords.{ends-write}
 use borrow.Author.Needs.{needs}
 use Rattle.stored_settings.proofs.write_settings.Statement.{statement}
 use Rattle.stored_settings.proofs.write_settings.Tie as tie

@@ -5,8 +5,8 @@ use mir.Syntax.{w64}
 use mir.Val.{toZ, ofZ}
 use mir.Facts.{toZ-pos}
 use native.Mathlib.Omega.{arith}
-use Rattle.stored_sheet_lines.proofs.Turns.{line-laid}
 use Rattle.base_laws.proofs.Places.{at}
+use Rattle.stored_sheet_lines.proofs.LinePieces.{line-laid}
 use borrow.Author.Needs.{needs}
 use Rattle.stored_sheet_lines.proofs.put_line.Statement.{statement}
 use Rattle.stored_sheet_lines.proofs.put_line.Tie as tie

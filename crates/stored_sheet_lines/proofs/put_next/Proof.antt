@@ -2,8 +2,8 @@
 use native.Mathlib.Omega.{arith}
 use denote.Ref.{now}
 use mathlib.Core.Path.{_≡_, sym, _∙_}
-use Rattle.stored_sheet_lines.proofs.Turns.{next-refused, next-line}
 use Rattle.base_laws.proofs.Places.{at}
+use Rattle.stored_sheet_lines.proofs.LinePieces.{next-refused, next-line}
 use borrow.Author.Needs.{needs}
 use Rattle.stored_sheet_lines.proofs.put_next.Statement.{statement}
 use Rattle.stored_sheet_lines.proofs.put_next.Tie as tie

@@ -5,8 +5,8 @@ use lib.ListN.{length, length-set}
 use mathlib.Core.Path.{_≡_}
 use mir.Syntax.{w64}
 use mir.Val.{SFits, toZ, ofZ}
-use Rattle.stored_sheet_lines.proofs.Turns.{number-within, number-marked, number-behind, number-most}
 use Rattle.base_laws.proofs.Places.{at}
+use Rattle.stored_sheet_lines.proofs.LinePieces.{number-within, number-marked, number-behind, number-most}
 use borrow.Author.Needs.{needs}
 use Rattle.stored_sheet_lines.proofs.put_number.Statement.{statement}
 use Rattle.stored_sheet_lines.proofs.put_number.Tie as tie

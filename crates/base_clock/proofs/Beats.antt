@@ -1,5 +1,5 @@
 -- The statements of specs/Beat.antt. Assumes nothing.
-use Prim.Native.Nat.{ℕ, zero, suc, _+_, _-_, _*_, _%_, _≤_, _<_, _∣_}
+use Prim.Native.Nat.{ℕ, suc, _+_, _-_, _*_, _%_, _≤_, _<_, _∣_}
 use mathlib.Core.Path.{_≡_, refl, sym, ap, _∙_}
 use mathlib.Core.Bool.{Bool, true, false, cond}
 use mathlib.Core.Logic.{_↔_}
@@ -61,7 +61,8 @@ at-one p m c w = (to, from)
         pick false e =
             let l : 1 < c = leb-false c 1 e in
             let s : suc m ≡ (p + 1 - c) + w .q * p = omega arith in
-            let r : suc m % p ≡ p + 1 - c = ap (λ (n : ℕ). n % p) s ∙ add-mul-mod-self-right (p + 1 - c) (w .q) p ∙ mod-eq-of-lt (omega arith) in
+            let r : suc m % p ≡ p + 1 - c = ap (λ (n : ℕ). n % p) s ∙ add-mul-mod-self-right (p + 1 - c) (w .q) p
+            ∙ mod-eq-of-lt (omega arith) in
             absurd (omega (arith, r, mod-eq-zero-of-dvd p d))
 
 module _ (p c : ℕ) (es : List Event) (h : 1 ≤ c) (g : c ≤ p) where

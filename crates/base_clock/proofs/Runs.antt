@@ -16,7 +16,8 @@ unfolding after
 after-append step s [] ds = refl
 after-append step s (c ∷ cs) ds = after-append step (step s c) cs ds
 
-module _ {S C E F : Type 0} (step : S → C → S) (move : F → E → F) (field : S → F) (event : C → E) (Holds : S → Type 0) (Good : S → C → Type 0)
+module _ {S C E F : Type 0} (step : S → C → S) (move : F → E → F) (field : S → F) (event : C → E) (Holds : S → Type 0)
+    (Good : S → C → Type 0)
     (moves : (s : S) (c : C) → Holds s → Good s c → field (step s c) ≡ move (field s) (event c))
     (stays : (s : S) (c : C) → Holds s → Good s c → Holds (step s c)) where
   pub watched : (cs : List C) (s : S) → Holds s → AllGood step Good s cs

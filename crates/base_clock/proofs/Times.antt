@@ -17,7 +17,8 @@ unset-is (setTo h ∷ es) t n = absurd n
 unset-is (other ∷ es) t n = unset-is es t n
 
 -- after a set only what follows it counts
-pub set-is : (before : List Event) (t h : ℕ) (since : List Event) → NoSet since → timerAfter t (before ++ (setTo h ∷ since)) ≡ h - ticks since
+pub set-is : (before : List Event) (t h : ℕ) (since : List Event) → NoSet since
+    → timerAfter t (before ++ (setTo h ∷ since)) ≡ h - ticks since
 unfolding after
 set-is [] t h since n = unset-is since h n
 set-is (e ∷ es) t h since n = set-is es (moved t e) h since n
@@ -49,7 +50,8 @@ map-append : {A B : Type 0} (f : A → B) (l m : List A) → map f (l ++ m) ≡ 
 map-append f [] m = refl
 map-append {A} {B} f (x ∷ l) m = ap (λ (r : List B). f x ∷ r) (map-append f l m)
 
-module _ {C : Type 0} (event : C → Event) (t : ℕ) (before : List C) (c : C) (h : ℕ) (since : List C) (e : event c ≡ setTo h) (n : NoSet (map event since)) where
+module _ {C : Type 0} (event : C → Event) (t : ℕ) (before : List C) (c : C) (h : ℕ) (since : List C) (e : event c ≡ setTo h)
+    (n : NoSet (map event since)) where
   -- the timer after a run of calls whose last set is c
   run-is : timerAfter t (map event (before ++ (c ∷ since))) ≡ h - ticks (map event since)
   run-is = rw (map-append event before (c ∷ since), e) (set-is (map event before) t h (map event since) n)

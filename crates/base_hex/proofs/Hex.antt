@@ -59,7 +59,8 @@ pairs-back (x ∷ xs) h =
 
 -- ── a pair written ──
 
-pub pair-laid : (at x : ℕ) (l : List ℕ) → at + 2 ≤ length l → set (set l at (hexDigit (x / 16))) (at + 1) (hexDigit (x % 16)) ≡ laid at (hexPair x) l
+pub pair-laid : (at x : ℕ) (l : List ℕ) → at + 2 ≤ length l
+    → set (set l at (hexDigit (x / 16))) (at + 1) (hexDigit (x % 16)) ≡ laid at (hexPair x) l
 unfolding hexPair
 pair-laid at x l h =
     rw (laid-one at l (hexDigit (x / 16)) (omega arith)) (laid-more at (hexDigit (x / 16) ∷ []) l (hexDigit (x % 16)) (omega arith))

@@ -44,7 +44,8 @@ module _ {A : Type 0} (d : A) (at : ℕ) (xs l : List A) (fits : at + length xs 
   pub drop-after : (k : ℕ) → at + length xs ≤ k → drop k (laid at xs l) ≡ drop k l
   drop-after k h =
       let long = length-laid at xs l fits in
-      let e : length (drop k (laid at xs l)) ≡ length (drop k l) = length-drop k (laid at xs l) ∙ ap (λ (m : ℕ). m - k) long ∙ sym (length-drop k l) in
+      let e : length (drop k (laid at xs l)) ≡ length (drop k l) = length-drop k (laid at xs l) ∙ ap (λ (m : ℕ). m - k) long
+      ∙ sym (length-drop k l) in
       ext-getD d (drop k (laid at xs l)) (drop k l) e (λ i j.
       getD-drop k (laid at xs l) i d ∙ laid-others at xs l fits d (k + i) (inr (omega arith)) ∙ sym (getD-drop k l i d))
 
@@ -53,7 +54,8 @@ module _ {A : Type 0} (d : A) (at : ℕ) (xs l : List A) (fits : at + length xs 
   part-after k n h = ap (take n) (drop-after k h)
 
 -- a part of what is laid is that part of it
-pub part-within : {A : Type 0} (at : ℕ) (xs l : List A) (k n : ℕ) → at + length xs ≤ length l → k + n ≤ length xs → part (at + k) n (laid at xs l) ≡ part k n xs
+pub part-within : {A : Type 0} (at : ℕ) (xs l : List A) (k n : ℕ) → at + length xs ≤ length l → k + n ≤ length xs
+    → part (at + k) n (laid at xs l) ≡ part k n xs
 unfolding laid
 part-within at xs l k n fits h =
     let q = drop (at + length xs) l in

@@ -12,7 +12,8 @@ use Rattle.base_laws.specs.Lists.{everyPair, absent, distinct, placeOf}
 
 -- ── two lists compared, pair by pair, with no way out ──
 
-module _ {A B : Type 0} (test : A → B → Bool) (l : List A) (m : List B) (i : ℕ) (d : A) (e : B) (hl : i < length l) (hm : i < length m) where
+module _ {A B : Type 0} (test : A → B → Bool) (l : List A) (m : List B) (i : ℕ) (d : A) (e : B) (hl : i < length l)
+    (hm : i < length m) where
   pair-turn : everyPair test (drop i l) (drop i m) ≡ (test (getD l i d) (getD m i e) && everyPair test (drop (i + 1) l) (drop (i + 1) m))
   unfolding everyPair
   pair-turn = rw (add-one, drop-cons l i d hl, drop-cons m i e hm)
@@ -30,7 +31,8 @@ module _ {A B : Type 0} {test : A → B → Bool} {l : List A} {m : List B} wher
     pub pairs-next : (d : A) (e : B) → i < length l → i < length m → PairsJoined test l m (good && test (getD l i d) (getD m i e)) (i + 1)
     pairs-next d e hl hm = record {
       low = omega arith;
-      rest = v .rest ∙ rw (pair-turn test l m i d e hl hm) (sym (and-assoc good (test (getD l i d) (getD m i e)) (everyPair test (drop (i + 1) l) (drop (i + 1) m))));
+      rest = v .rest ∙ rw (pair-turn test l m i d e hl hm)
+          (sym (and-assoc good (test (getD l i d) (getD m i e)) (everyPair test (drop (i + 1) l) (drop (i + 1) m))));
     }
 
     pub pairs-all : length l ≤ i → length m ≤ i → good ≡ everyPair test l m
@@ -51,7 +53,8 @@ pair-lengths test (x ∷ l) (y ∷ m) n = rw (pair-lengths test l m (λ e. n (ap
 
 -- ── no number twice ──
 
-pub distinct-turn : (l : List ℕ) (i : ℕ) → i < length l → distinct (drop i l) ≡ (absent (getD l i 0) (drop (i + 1) l) && distinct (drop (i + 1) l))
+pub distinct-turn : (l : List ℕ) (i : ℕ) → i < length l
+    → distinct (drop i l) ≡ (absent (getD l i 0) (drop (i + 1) l) && distinct (drop (i + 1) l))
 unfolding distinct
 distinct-turn l i h = rw (add-one, drop-cons l i 0 h)
 

@@ -15,5 +15,6 @@ module _ {S A : Type 0} {x y : Ended S A} (e : x ≡ y) where
   buffer-is = ap (λ (t : Ended S A). t .buffer) e
 
 -- what was answered, told in other words, and the memory as it lies
-pub told-by : {S A B : Type 0} (tell : A → B) {r : A} {n : B} {x : S} {b : List ℕ} {e : Ended S A} → n ≡ tell r → ended r x b ≡ e → ended n x b ≡ toldBy tell e
+pub told-by : {S A B : Type 0} (tell : A → B) {r : A} {n : B} {x : S} {b : List ℕ} {e : Ended S A} → n ≡ tell r → ended r x b ≡ e
+    → ended n x b ≡ toldBy tell e
 told-by tell {x = x} {b = b} m e = ap (λ n. ended n x b) m ∙ ap (toldBy tell) e

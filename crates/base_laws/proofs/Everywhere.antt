@@ -51,7 +51,8 @@ module _ {A B : Type 0} (test : A → B → Bool) where
   pair-long (x ∷ l) [] h = absurd (false≢true h)
   pair-long (x ∷ l) (y ∷ m) h = ap suc (pair-long l m (both-true (test x y) (everyPair test l m) .0 h .1))
 
-  pair-at : (l : List A) (m : List B) (d : A) (e : B) → everyPair test l m ≡ true → (i : ℕ) → i < length l → test (getD l i d) (getD m i e) ≡ true
+  pair-at : (l : List A) (m : List B) (d : A) (e : B) → everyPair test l m ≡ true → (i : ℕ) → i < length l
+      → test (getD l i d) (getD m i e) ≡ true
   unfolding everyPair
   pair-at [] [] d e h i k = absurd (omega arith)
   pair-at [] (y ∷ m) d e h i k = absurd (false≢true h)

@@ -35,7 +35,8 @@ module _ {A : Type 0} (test : A → Bool) where
   every-set (x ∷ l) zero v t h = join v l t (both x l h .1)
   every-set (x ∷ l) (suc i) v t h = join x (set l i v) (both x l h .0) (every-set l i v t (both x l h .1))
 
-  pub every-map : (f : A → A) → ((x : A) → test x ≡ true → test (f x) ≡ true) → (l : List A) → every test l ≡ true → every test (map f l) ≡ true
+  pub every-map : (f : A → A) → ((x : A) → test x ≡ true → test (f x) ≡ true) → (l : List A) → every test l ≡ true
+      → every test (map f l) ≡ true
   every-map f k [] h = h
   every-map f k (x ∷ l) h = join (f x) (map f l) (k x (both x l h .0)) (every-map f k l (both x l h .1))
 

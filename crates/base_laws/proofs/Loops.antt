@@ -74,7 +74,8 @@ from-turn : {A : Type 0} (test : A → Bool) (n : ℕ) (l : List A) (i : ℕ) (d
 unfolding every
 from-turn test n l i d h = turn (ltb i n) refl
   where
-    turn : (b : Bool) → ltb i n ≡ b → every test (drop (n - i) (drop i l)) ≡ ((b || test (getD l i d)) && every test (drop (n - (i + 1)) (drop (i + 1) l)))
+    turn : (b : Bool) → ltb i n ≡ b → every test (drop (n - i) (drop i l))
+        ≡ ((b || test (getD l i d)) && every test (drop (n - (i + 1)) (drop (i + 1) l)))
     turn true e =
         let k : n - i ≡ suc (n - (i + 1)) = omega (arith, ltb-true i n e) in
         rw (k, drop-cons l i d h, add-one)
@@ -91,7 +92,9 @@ module _ {A : Type 0} {test : A → Bool} {n : ℕ} {l : List A} where
     pub from-next : (d : A) → i < length l → JoinedFrom test n l (good && (ltb i n || test (getD l i d))) (i + 1)
     from-next d h = record {
       low = omega arith;
-      rest = v .rest ∙ rw (from-turn test n l i d h) (sym (and-assoc good (ltb i n || test (getD l i d)) (every test (drop (n - (i + 1)) (drop (i + 1) l)))));
+      rest =
+          v .rest ∙ rw (from-turn test n l i d h) (sym
+          (and-assoc good (ltb i n || test (getD l i d)) (every test (drop (n - (i + 1)) (drop (i + 1) l)))));
     }
 
     pub from-all : length l ≤ i → good ≡ every test (drop n l)

@@ -21,7 +21,8 @@ same-last [] p x h = absurd (omega arith)
 same-last (y ∷ []) [] x h = and-true (eqb y x)
 same-last (y ∷ z ∷ l) [] x h = absurd (omega arith)
 same-last (y ∷ l) (z ∷ p) x h =
-    ap (λ (b : Bool). eqb y z && b) (same-last l p x (omega arith)) ∙ sym (and-assoc (eqb y z) (same (take (length p) l) p) (eqb (getD l (length p) 0) x))
+    ap (λ (b : Bool). eqb y z && b) (same-last l p x (omega arith))
+    ∙ sym (and-assoc (eqb y z) (same (take (length p) l) p) (eqb (getD l (length p) 0) x))
 
 pub same-is : (l m : List ℕ) → (same l m ≡ true) ↔ (l ≡ m)
 same-is l m = (to, from)

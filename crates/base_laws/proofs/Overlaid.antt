@@ -83,12 +83,14 @@ module _ {A : Type 0} where
       ∙ ap (λ (k : ℕ). take at l ++ (xs ++ ys) ++ drop k l) n
 
   -- the same where the first is n long
-  pub laid-next : (at n : ℕ) (xs ys l : List A) → length xs ≡ n → at + n + length ys ≤ length l → laid (at + n) ys (laid at xs l) ≡ laid at (xs ++ ys) l
+  pub laid-next : (at n : ℕ) (xs ys l : List A) → length xs ≡ n → at + n + length ys ≤ length l
+      → laid (at + n) ys (laid at xs l) ≡ laid at (xs ++ ys) l
   laid-next at n xs ys l e h =
       ap (λ (k : ℕ). laid (at + k) ys (laid at xs l)) (sym e) ∙ laid-append at xs ys l (omega arith)
 
   -- one element more stored behind what is laid
-  pub laid-more : (at : ℕ) (xs l : List A) (x : A) → at + length xs < length l → set (laid at xs l) (at + length xs) x ≡ laid at (xs ++ (x ∷ [])) l
+  pub laid-more : (at : ℕ) (xs l : List A) (x : A) → at + length xs < length l
+      → set (laid at xs l) (at + length xs) x ≡ laid at (xs ++ (x ∷ [])) l
   unfolding laid
   laid-more at xs l x h =
       let n = at + length xs in
@@ -136,4 +138,11 @@ module _ {A : Type 0} where
       ∙ ap (λ (m : ℕ). laid at xs r ++ drop (0 + m) l) (sym (length-laid at xs r h))
 
 pub parts : Parts
-parts = record { back = laid-back; others = λ at xs l d i h w. laid-others at xs l h d i w; long = length-laid; size = length-part; holds = getD-part }
+parts =
+    record {
+      back = laid-back;
+      others = λ at xs l d i h w. laid-others at xs l h d i w;
+      long = length-laid;
+      size = length-part;
+      holds = getD-part;
+    }

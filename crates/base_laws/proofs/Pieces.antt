@@ -16,7 +16,8 @@ pub first : {A : Type 0} (at n : ℕ) (xs l : List A) {x : List A} → x ≡ lai
 first at n xs l e h = record { is = e; long = h }
 
 -- and the m elements ys right behind them
-pub more : {A : Type 0} {at n : ℕ} {xs l x y : List A} (m : ℕ) (ys : List A) → Has at n xs l x → y ≡ laid (at + n) ys x → length ys ≡ m → at + n + m ≤ length l
+pub more : {A : Type 0} {at n : ℕ} {xs l x y : List A} (m : ℕ) (ys : List A) → Has at n xs l x → y ≡ laid (at + n) ys x → length ys ≡ m
+    → at + n + m ≤ length l
     → Has at (n + m) (xs ++ ys) l y
 more {A} {at} {n} {xs} {l} m ys p e k h = record {
   is = e ∙ ap (laid (at + n) ys) (p .is) ∙ laid-next at n xs ys l (p .long) (omega arith);
@@ -24,7 +25,8 @@ more {A} {at} {n} {xs} {l} m ys p e k h = record {
 }
 
 -- and one element, stored there
-pub stored : {A : Type 0} {at n : ℕ} {xs l x : List A} (v : A) → Has at n xs l x → at + n < length l → Has at (n + 1) (xs ++ (v ∷ [])) l (set x (at + n) v)
+pub stored : {A : Type 0} {at n : ℕ} {xs l x : List A} (v : A) → Has at n xs l x → at + n < length l
+    → Has at (n + 1) (xs ++ (v ∷ [])) l (set x (at + n) v)
 stored {A} {at} {n} {xs} {l} {x} v p h =
     let e : length x ≡ length l = ap length (p .is) ∙ length-laid at xs l (omega (arith, p .long)) in
     more 1 (v ∷ []) p (laid-one (at + n) x v (omega arith)) refl (omega arith)

@@ -78,4 +78,13 @@ pub less-size : (x y : ℤ) → natAbs (x -ℤ y) ≤ natAbs x + natAbs y
 less-size x y = omega (arith, add-size x (negℤ y), neg-size y)
 
 pub differences : Differences
-differences = record { split = split; less = pos-less; adds = sub-add; takes = sub-take; size = λ a b n h k. omega (arith, sub-size a b n h k); sum-size = λ x y. omega (arith, add-size x y); less-size = λ x y. omega (arith, less-size x y) }
+differences =
+    record {
+      split = split;
+      less = pos-less;
+      adds = sub-add;
+      takes = sub-take;
+      size = λ a b n h k. omega (arith, sub-size a b n h k);
+      sum-size = λ x y. omega (arith, add-size x y);
+      less-size = λ x y. omega (arith, less-size x y);
+    }

@@ -38,11 +38,13 @@ pub either-true : (a b : Bool) → ((a || b) ≡ true) ↔ ((a ≡ true) ⊎ (b 
 either-true true b = (λ h. inl refl, λ h. refl)
 either-true false b = (λ h. inr h, ⊎-elim (λ h. absurd (false≢true h)) (λ h. h))
 
-pub choose-holds : {A : Type 0} (outcome : A) (rules : List (Bool × A)) (otherwise : A) → choose ((true, outcome) ∷ rules) otherwise ≡ outcome
+pub choose-holds : {A : Type 0} (outcome : A) (rules : List (Bool × A)) (otherwise : A)
+    → choose ((true, outcome) ∷ rules) otherwise ≡ outcome
 unfolding choose
 choose-holds outcome rules otherwise = refl
 
-pub choose-fails : {A : Type 0} (outcome : A) (rules : List (Bool × A)) (otherwise : A) → choose ((false, outcome) ∷ rules) otherwise ≡ choose rules otherwise
+pub choose-fails : {A : Type 0} (outcome : A) (rules : List (Bool × A)) (otherwise : A)
+    → choose ((false, outcome) ∷ rules) otherwise ≡ choose rules otherwise
 unfolding choose
 choose-fails outcome rules otherwise = refl
 
@@ -62,4 +64,5 @@ choose-map f (rule ∷ rules) otherwise =
     either false x y = refl
 
 pub chains : Chains
-chains = record { holds = choose-holds; fails = choose-fails; none = choose-none; mapped = choose-map; both = both-true; either = either-true }
+chains =
+    record { holds = choose-holds; fails = choose-fails; none = choose-none; mapped = choose-map; both = both-true; either = either-true }

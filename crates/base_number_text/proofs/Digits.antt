@@ -106,7 +106,8 @@ unfolding spelled
 counted-text [] n t = absurd (omega (arith, t .some))
 counted-text (x ∷ text) n t =
     let k = length text in
-    let top : n / 10 ^ k ≡ 0 * 10 + (x - 48) = rw (t .value) at (spelled-before (0 * 10 + (x - 48)) text (rest-digits x text (t .digits))) in
+    let top : n / 10 ^ k ≡ 0 * 10 + (x - 48) = rw (t .value) at
+    (spelled-before (0 * 10 + (x - 48)) text (rest-digits x text (t .digits))) in
     let whole : 0 < 10 ^ k = one-le-pow k 10 (omega arith) in
     record {
       some = omega arith;
@@ -128,4 +129,5 @@ last-text text n t = rw (t .value) at (spelled-last 0 text (t .digits))
 
 pub only : (text : List ℕ) (n : ℕ) → IsDecimal text n → text ≡ digitsOf n
 only text n t =
-    sym (last-text text n t) ∙ ap (λ (k : ℕ). lastDigits k n) (counted-length (digitsOf n) n (length text) (is n) (counted-text text n t)) ∙ last-text (digitsOf n) n (is n)
+    sym (last-text text n t) ∙ ap (λ (k : ℕ). lastDigits k n) (counted-length (digitsOf n) n (length text) (is n) (counted-text text n t))
+    ∙ last-text (digitsOf n) n (is n)

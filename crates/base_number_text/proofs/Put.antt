@@ -64,10 +64,14 @@ module _ (at : ℕ) (text more s : List ℕ) (h : at + length (text ++ more) ≤
   then = rw (put-long at text s) all
 
   pub put-joined : putAt (behind at text s) more (putAt at text s) ≡ putAt at (text ++ more) s
-  put-joined = rw (put-place at text s first, put-laid _ more (putAt at text s) then, put-laid at text s first, put-laid at (text ++ more) s h) (laid-append at text more s all)
+  put-joined =
+      rw (put-place at text s first, put-laid _ more (putAt at text s) then, put-laid at text s first, put-laid at (text ++ more) s h)
+      (laid-append at text more s all)
 
   pub put-joined-place : behind (behind at text s) more (putAt at text s) ≡ behind at (text ++ more) s
-  put-joined-place = rw (put-place at text s first, put-place _ more (putAt at text s) then, put-place at (text ++ more) s h) (omega (arith, length-append text more))
+  put-joined-place =
+      rw (put-place at text s first, put-place _ more (putAt at text s) then, put-place at (text ++ more) s h)
+      (omega (arith, length-append text more))
 
 -- one octet before a text, which is put first: it goes there where the text has come, and so the place has moved
 module _ (at x : ℕ) (text s : List ℕ) (some : 1 ≤ length text) where
@@ -81,7 +85,8 @@ module _ (at x : ℕ) (text s : List ℕ) (some : 1 ≤ length text) where
 
   pub put-not-before : behind (at + 1) text s ≡ at + 1 → (putAt (at + 1) text s ≡ putAt at (x ∷ text) s) × (at ≡ behind at (x ∷ text) s)
   put-not-before e =
-      let h : length s < at + 1 + length text = ⊎-elim (λ h. absurd (omega (arith, put-place (at + 1) text s h))) (λ h. h) (cases (at + 1) text s) in (
+      let h : length s < at + 1 + length text = ⊎-elim (λ h. absurd (omega (arith, put-place (at + 1) text s h))) (λ h. h)
+      (cases (at + 1) text s) in (
         rw (put-untouched (at + 1) text s h, put-untouched at (x ∷ text) s (omega arith)),
         sym (put-stays at (x ∷ text) s (omega arith)),
       )

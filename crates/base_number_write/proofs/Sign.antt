@@ -28,7 +28,8 @@ module _ (z : ℤ) (f : SFits w64 z) where
   pub size-below-most : natAbs (toZ w64 (ofZ w64 z)) < 10 ^ 19
   size-below-most = rw (back z f) (size-small z f)
 
-  pub text-below : ltZ (toZ w64 (ofZ w64 z)) (pos 0) ≡ true → 45 ∷ digitsOf (natAbs (toZ w64 (ofZ w64 (negsuc 0 -ℤ toZ w64 (ofZ w64 z)))) + 1) ≡ decimal z
+  pub text-below : ltZ (toZ w64 (ofZ w64 z)) (pos 0) ≡ true
+      → 45 ∷ digitsOf (natAbs (toZ w64 (ofZ w64 (negsuc 0 -ℤ toZ w64 (ofZ w64 z)))) + 1) ≡ decimal z
   text-below n = rw (flipped z f n) (below z (rw (back z f) at n))
 
   pub text-above : ltZ (toZ w64 (ofZ w64 z)) (pos 0) ≡ false → digitsOf (natAbs (toZ w64 (ofZ w64 z))) ≡ decimal z

@@ -31,18 +31,21 @@ module _ {n bound k : ℕ} (c : Counting n bound k) where
   counting-next h = record {
     some = omega arith;
     is-bound = rw (add-one k, pow-suc 10 k, c .is-bound);
-    fewer = λ j s l. ⊎-elim (λ e. rw (eqb-true j k e) (omega (arith, c .is-bound))) (λ e. c .fewer j s (omega (arith, eqb-false j k e))) (known (eqb j k));
+    fewer = λ j s l. ⊎-elim (λ e. rw (eqb-true j k e) (omega (arith, c .is-bound))) (λ e. c .fewer j s (omega (arith, eqb-false j k e)))
+        (known (eqb j k));
   }
 
   -- while it goes on, the next bound is at most 10 ^ 19
   pub counting-small : bound ≤ n → n < 10 ^ 19 → (k < 19) × (bound ≤ 10 ^ 18)
   counting-small h l =
       let few : k < 19 = ⊎-elim (λ t. ltb-true k 19 t)
-      (λ t. absurd (omega (arith, c .is-bound, pow-le-pow-right {n = 10} (omega arith) {i = 19} {j = k} (ltb-false k 19 t)))) (known (ltb k 19)) in
+      (λ t. absurd (omega (arith, c .is-bound, pow-le-pow-right {n = 10} (omega arith) {i = 19} {j = k} (ltb-false k 19 t))))
+      (known (ltb k 19)) in
       (few, omega (arith, c .is-bound, pow-le-pow-right {n = 10} (omega arith) {i = k} {j = 18} (omega arith)))
 
   pub counting-done : n < bound → k ≡ length (digitsOf n)
-  counting-done h = counted-length (digitsOf n) n k (is n) (record { some = c .some; enough = omega (arith, c .is-bound); fewer = c .fewer })
+  counting-done h =
+      counted-length (digitsOf n) n k (is n) (record { some = c .some; enough = omega (arith, c .is-bound); fewer = c .fewer })
 
 -- ── digits written from the last to the first ──
 
@@ -60,7 +63,8 @@ writing-start at count n s =
     record { low = omega arith; long = refl; written = rw e (sym (laid-none (at + count) s)); rest-is = rw e (sym (div-one n)) }
 
 module _ {at count n : ℕ} {s into : List ℕ} {rest left : ℕ} (w : Writing at count n s into rest left) where
-  pub writing-next : 0 < left → at + count ≤ length s → Writing at count n s (set into (at + (left - 1)) (48 + rest % 10)) (rest / 10) (left - 1)
+  pub writing-next : 0 < left → at + count ≤ length s
+      → Writing at count n s (set into (at + (left - 1)) (48 + rest % 10)) (rest / 10) (left - 1)
   unfolding lastDigits
   writing-next h fits =
       let k = count - left in

@@ -48,11 +48,14 @@ octets-again bigEndian xs h =
 -- ── numbers at a place ──
 
 -- the number that stands behind p, which is `at` octets long, in a list that is so put together
-pub number-among : {all : List ℕ} (o : Order) (n v : ℕ) (p q : List ℕ) (at : ℕ) → all ≡ p ++ inOctets o n v ++ q → length p ≡ at → v < 256 ^ n
+pub number-among : {all : List ℕ} (o : Order) (n v : ℕ) (p q : List ℕ) (at : ℕ) → all ≡ p ++ inOctets o n v ++ q → length p ≡ at
+    → v < 256 ^ n
     → number o (part at n all) ≡ v
-number-among o n v p q at e l small = ap (number o) (part-among p (inOctets o n v) q at n e l (length-octets o n v)) ∙ number-back o n v small
+number-among o n v p q at e l small =
+    ap (number o) (part-among p (inOctets o n v) q at n e l (length-octets o n v)) ∙ number-back o n v small
 
-pub number-here : (o : Order) (n v : ℕ) (p q : List ℕ) (at : ℕ) → length p ≡ at → v < 256 ^ n → number o (part at n (p ++ inOctets o n v ++ q)) ≡ v
+pub number-here : (o : Order) (n v : ℕ) (p q : List ℕ) (at : ℕ) → length p ≡ at → v < 256 ^ n
+    → number o (part at n (p ++ inOctets o n v ++ q)) ≡ v
 number-here o n v p q at l small = number-among o n v p q at refl l small
 
 module _ (o : Order) (n at v : ℕ) (s : List ℕ) (fits : at + n ≤ length s) where

@@ -16,5 +16,6 @@ read-little-one κs a r r′ s s′ p q = p .is ∙ sym (q .is)
 pub write-big-one : (κs : _) (a : _) (r r′ : _) (s s′ : _) → write-big.Post κs a r s → write-big.Post κs a r′ s′ → now (s .0) ≡ now (s′ .0)
 write-big-one κs a r r′ s s′ p q = p ∙ sym q
 
-pub write-little-one : (κs : _) (a : _) (r r′ : _) (s s′ : _) → write-little.Post κs a r s → write-little.Post κs a r′ s′ → now (s .0) ≡ now (s′ .0)
+pub write-little-one : (κs : _) (a : _) (r r′ : _) (s s′ : _) → write-little.Post κs a r s → write-little.Post κs a r′ s′
+    → now (s .0) ≡ now (s′ .0)
 write-little-one κs a r r′ s s′ p q = p ∙ sym q

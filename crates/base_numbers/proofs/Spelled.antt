@@ -2,7 +2,8 @@
 use Prim.Native.Nat.{ℕ, zero, suc, _+_, _*_, _/_, _%_, _^_, _<_}
 use mathlib.Core.Path.{_≡_, refl, sym, ap, _∙_}
 use mathlib.Core.List.{List, [], _∷_, _++_}
-use native.Mathlib.Nat.{pow-zero, pow-suc, pow-succ', one-le-pow, div-div-eq-div-mul, div-one, div-lt-iff-lt-mul, mul-assoc, zero-add, suc-add}
+use native.Mathlib.Nat.{pow-zero, pow-suc, pow-succ', one-le-pow, div-div-eq-div-mul, div-one, div-lt-iff-lt-mul, mul-assoc, zero-add}
+use native.Mathlib.Nat.{suc-add}
 use native.Mathlib.Numerals.{add-one}
 use native.Mathlib.Omega.{arith}
 use lib.Arith.{mod-mul}

@@ -4,5 +4,6 @@ use mathlib.Core.Path.{_≡_, sym, _∙_}
 use denote.Ref.{now}
 use Rattle.base_octets.proofs.copy_octets.Reads as copy-octets
 
-pub copy-octets-one : (κs : _) (a : _) (r r′ : _) (s s′ : _) → copy-octets.Post κs a r s → copy-octets.Post κs a r′ s′ → now (s .0) ≡ now (s′ .0)
+pub copy-octets-one : (κs : _) (a : _) (r r′ : _) (s s′ : _) → copy-octets.Post κs a r s → copy-octets.Post κs a r′ s′
+    → now (s .0) ≡ now (s′ .0)
 copy-octets-one κs a r r′ s s′ p q = p ∙ sym q

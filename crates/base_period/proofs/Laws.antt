@@ -31,7 +31,11 @@ hold-most code = omega (arith, hold-rule code, ticks-most code)
 some-to : (code : ℕ) → 1 ≤ ticksOf code → (1 ≤ code) × (code ≤ 7)
 unfolding ticksOf
 some-to zero h = absurd (omega arith)
-some-to (suc code) h = (omega arith, ⊎-elim (λ far. absurd (omega (arith, List·getD-eq-default ticksTable 0 {n = suc code} (leb-true 8 (suc code) far)))) (λ near. omega (arith, leb-false 8 (suc code) near)) (known (leb 8 (suc code))))
+some-to (suc code) h = (
+  omega arith,
+  ⊎-elim (λ far. absurd (omega (arith, List·getD-eq-default ticksTable 0 {n = suc code} (leb-true 8 (suc code) far))))
+      (λ near. omega (arith, leb-false 8 (suc code) near)) (known (leb 8 (suc code))),
+)
 
 some-from : (code : ℕ) → 1 ≤ code → code ≤ 7 → 1 ≤ ticksOf code
 unfolding ticksOf every
@@ -44,9 +48,16 @@ some code = (some-to code, λ h. some-from code (h .0) (h .1))
 -- any other code has no period
 pub none : (code : ℕ) → ((1 ≤ code) × (code ≤ 7) → ⊥) → rowOf 0 0 ≡ periodOf code
 none code h =
-    let ticks : 0 ≡ ticksOf code = ⊎-elim (λ t. absurd (h (some code .0 (leb-true 1 (ticksOf code) t)))) (λ f. omega (arith, leb-false 1 (ticksOf code) f)) (known (leb 1 (ticksOf code))) in
+    let ticks : 0 ≡ ticksOf code = ⊎-elim (λ t. absurd (h (some code .0 (leb-true 1 (ticksOf code) t))))
+    (λ f. omega (arith, leb-false 1 (ticksOf code) f)) (known (leb 1 (ticksOf code))) in
     let hold : 0 ≡ holdOf code = omega (arith, hold-rule code) in
     ap₂ rowOf ticks hold
 
 pub period-laws : PeriodLaws
-period-laws = record { hold-rule = λ code. omega (arith, hold-rule code); some = some; ticks-most = λ code. omega (arith, ticks-most code); hold-most = λ code. omega (arith, hold-most code) }
+period-laws =
+    record {
+      hold-rule = λ code. omega (arith, hold-rule code);
+      some = some;
+      ticks-most = λ code. omega (arith, ticks-most code);
+      hold-most = λ code. omega (arith, hold-most code);
+    }

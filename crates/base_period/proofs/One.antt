@@ -1,4 +1,5 @@
--- Two results that a contract allows are equal. Stated over `Reads.Post`, which the check reads off the source's own clauses. Assumes nothing.
+-- Two results that a contract allows are equal. Stated over `Reads.Post`, which the check reads off the source's own clauses. Assumes
+-- nothing.
 use mathlib.Core.Path.{_≡_, sym, _∙_}
 use Rattle.base_period.proofs.Period.from_code.Reads as from-code
 use Rattle.base_period.proofs.ticks_of.Reads as ticks-of

@@ -1,4 +1,5 @@
--- Two results that a contract allows are equal. Stated over `Reads.Post`, which the check reads off the source's own clauses. Assumes nothing.
+-- Two results that a contract allows are equal. Stated over `Reads.Post`, which the check reads off the source's own clauses. Assumes
+-- nothing.
 use mathlib.Core.Path.{_≡_, sym, _∙_}
 use Rattle.base_stamp.proofs.good_stamp.Reads as good-stamp
 use Rattle.base_stamp.proofs.given_stamp.Reads as given-stamp

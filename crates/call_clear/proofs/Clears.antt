@@ -17,7 +17,7 @@ use Rattle.state_view.specs.Changed.{withSession}
 use Rattle.state_view.proofs.Rules.{session-put, well-formed-is}
 use Rattle.call_clear.specs.declared.ClearAnswer.{ClearAnswer}
 use Rattle.call_clear.specs.declared.ClearAnswer.the-variants.{NotWellFormed, Cleared}
-use Rattle.call_clear.specs.Clear.{clearOf, told, numbersOf, Clears}
+use Rattle.call_clear.specs.Clear.{clearOf, clearTold, clearNumbers, Clears}
 
 module _ (s : State) where
   pub at-2 : wellFormed s ≡ false → clearOf s ≡ ended NotWellFormed s []
@@ -28,25 +28,27 @@ module _ (s : State) where
   unfolding clearOf
   at-cleared t = rw t
 
-  agree : told (clearOf s .answer) ≡ numbersOf s
-  unfolding clearOf told
+  agree : clearTold (clearOf s .answer) ≡ clearNumbers s
+  unfolding clearOf clearTold
   agree = ⊎-elim (λ t. rw t) (λ f. rw f) (known (wellFormed s))
 
   -- ── the same from what the code knows ──
 
   -- r and x are the outcome, and r is told by its number
   abbrev Outcome : ClearAnswer → State → Type 0
-  Outcome r x = (ended r x [] ≡ clearOf s) × (told r ≡ numbersOf s)
+  Outcome r x = (ended r x [] ≡ clearOf s) × (clearTold r ≡ clearNumbers s)
 
   numbered : {r : ClearAnswer} {x : State} → clearOf s ≡ ended r x [] → Outcome r x
-  numbered e = (sym e, ap (λ (t : Ended State ClearAnswer). told (t .answer)) (sym e) ∙ agree)
+  numbered e = (sym e, ap (λ (t : Ended State ClearAnswer). clearTold (t .answer)) (sym e) ∙ agree)
 
   pub ends-2 : {b : Bool} → b ≡ wellFormed s → not b ≡ true → Outcome NotWellFormed s
   ends-2 {b} e h = numbered (at-2 (sym e ∙ not-true b h))
 
-  pub ends-cleared : {b : Bool} {x : LossSession} {y : State} → b ≡ wellFormed s → not b ≡ false → x ≡ clearedSession → y ≡ withSession x s → Outcome Cleared y
+  pub ends-cleared : {b : Bool} {x : LossSession} {y : State} → b ≡ wellFormed s → not b ≡ false → x ≡ clearedSession → y ≡ withSession x s
+      → Outcome Cleared y
   ends-cleared {b} e h f g =
-      numbered (at-cleared (sym e ∙ not-false b h) ∙ ap (λ (y : State). ended Cleared y []) (sym (g ∙ ap (λ (x : LossSession). withSession x s) f)))
+      numbered (at-cleared (sym e ∙ not-false b h)
+      ∙ ap (λ (y : State). ended Cleared y []) (sym (g ∙ ap (λ (x : LossSession). withSession x s) f)))
 
   -- ── the statement ──
 

@@ -23,17 +23,17 @@ clearOf s = cond (wellFormed s) (ended Cleared (withSession clearedSession s) []
 -- ── in the paper's numbers ──
 
 -- the refusal, or 0
-abbrev pub numbers : ℕ → ClearTold
-numbers refusal = record { refusal = refusal }
+abbrev pub tellClear : ℕ → ClearTold
+tellClear refusal = record { refusal = refusal }
 
 -- the number of each answer
-unfoldable pub told : ClearAnswer → ClearTold
-told NotWellFormed = numbers 2
-told Cleared = numbers 0
+unfoldable pub clearTold : ClearAnswer → ClearTold
+clearTold NotWellFormed = tellClear 2
+clearTold Cleared = tellClear 0
 
 -- the same from the state alone
-abbrev pub numbersOf : State → ClearTold
-numbersOf s = cond (wellFormed s) (numbers 0) (numbers 2)
+abbrev pub clearNumbers : State → ClearTold
+clearNumbers s = cond (wellFormed s) (tellClear 0) (tellClear 2)
 
 -- what is said of every state
 pub record Clears : Type 0 where
@@ -47,4 +47,4 @@ pub record Clears : Type 0 where
   -- whatever the answer, nothing but the session changes
   pub others : (s : State) → clearOf s .state ≡ withSession (clearOf s .state .session) s
   -- an answer is told as the paper numbers it
-  pub agree : (s : State) → told (clearOf s .answer) ≡ numbersOf s
+  pub agree : (s : State) → clearTold (clearOf s .answer) ≡ clearNumbers s

@@ -4,7 +4,7 @@ ghost use mathlib.Core.Path.{_≡_};
 ghost use Rattle.base_laws.specs.Ended.{ended};
 ghost use Rattle.state_view.specs.State.{before, afterSession};
 ghost use Rattle.state_places.specs.Stored.{Whole};
-ghost use Rattle.call_clear.specs.Clear.{clearOf, told, numbersOf};
+ghost use Rattle.call_clear.specs.Clear.{clearOf, clearTold, clearNumbers};
 use loss_session::cleared;
 use state_places::put_session;
 use state_settings::Names;
@@ -38,7 +38,7 @@ pub fn clear(
     totals: &mut Totals,
 ) -> ClearAnswer
     ensures { λ r. ⌜ (ended r (afterSession set names ids timers rdi run totals) [] ≡ clearOf (before set names ids timers rdi run totals))
-        × (told r ≡ numbersOf (before set names ids timers rdi run totals)) ⌝ }
+        × (clearTold r ≡ clearNumbers (before set names ids timers rdi run totals)) ⌝ }
     ensures { λ _. ⌜ Whole (now (run .exit)) (now (totals .exit)) ⌝ }
 {
     // a view of an array tells its length, and costs nothing
@@ -53,7 +53,7 @@ pub fn clear(
 
 // An answer in the paper's numbers.
 pub fn tell(answer: ClearAnswer) -> ClearTold
-    ensures { λ r. ⌜ r ≡ told answer ⌝ }
+    ensures { λ r. ⌜ r ≡ clearTold answer ⌝ }
 {
     match answer {
         ClearAnswer::NotWellFormed => ClearTold { refusal: 2 },

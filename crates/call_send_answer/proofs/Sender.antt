@@ -1,21 +1,17 @@
 -- How a call that sends a message ends, from what its code knows: one of its refusals, refusal 3, or the message written. Whatever state,
 -- answers, refusals and octets. Assumes nothing.
-use Prim.Native.Nat.{ℕ, _≤_, _<_}
+use Prim.Native.Nat.{ℕ}
 use mathlib.Core.Path.{_≡_, refl, sym, ap, ap₂, _∙_}
 use mathlib.Core.Bool.{Bool, true, false, not, cond}
-use mathlib.Core.List.{List, [], _∷_, map}
-use mathlib.Core.Logic.{_↔_}
+use mathlib.Core.List.{List, [], _∷_}
 use lib.Dec.{ltb}
 use lib.ListN.{length}
 use borrow.Author.Tests.{lt-ltb, le-ltb}
 use Rattle.base_laws.specs.Ended.{Ended, ended}
 use Rattle.base_laws.specs.Tests.{choose}
 use Rattle.base_laws.specs.Lists.{laid}
-use Rattle.base_laws.proofs.Ended.{answer-is}
-use Rattle.base_laws.proofs.Tests.{known, split, choose-map}
 use Rattle.message_parts.specs.declared.parts.Written.{Written}
 use Rattle.message_parts.specs.declared.parts.Written.the-variants as written
-use Rattle.message_parts.specs.declared.parts.WrittenTold.{WrittenTold}
 use Rattle.message_parts.specs.Buffer.{writtenOf, bufferOf}
 use Rattle.message_parts.proofs.Written.{none, some}
 

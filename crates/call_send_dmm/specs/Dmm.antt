@@ -17,7 +17,7 @@ use Rattle.message_requests.specs.Requests.{dmmOctets, dmmLength}
 use Rattle.call_send_answer.specs.declared.DmmAnswer.{DmmAnswer}
 use Rattle.call_send_answer.specs.declared.DmmAnswer.the-variants.{NotWellFormed, BadStamp, NoRoom, Sent}
 use Rattle.message_parts.specs.declared.parts.WrittenTold.{WrittenTold}
-use Rattle.message_parts.specs.Buffer.{numbers}
+use Rattle.message_parts.specs.Buffer.{tellWritten}
 use Rattle.call_send_answer.specs.Told.{dmmTold}
 
 -- to the loss peer, from us, with the caller's stamp
@@ -42,11 +42,11 @@ sendDmm s stamp buffer =
 unfoldable pub dmmNumbers : State → Stamp → List ℕ → WrittenTold
 dmmNumbers s stamp buffer =
     choose (
-    (not (wellFormed s), numbers 2 0)
-    ∷ (not (good stamp), numbers 6 0)
-    ∷ (ltb (length buffer) dmmLength, numbers 3 0)
+    (not (wellFormed s), tellWritten 2 0)
+    ∷ (not (good stamp), tellWritten 6 0)
+    ∷ (ltb (length buffer) dmmLength, tellWritten 3 0)
     ∷ [])
-    (numbers 0 dmmLength)
+    (tellWritten 0 dmmLength)
 
 -- what is said of every state, stamp and buffer
 pub record SendsDmm : Type 0 where

@@ -15,7 +15,7 @@ use Rattle.message_requests.specs.Requests.{lmmOctets, lmmLength}
 use Rattle.call_send_answer.specs.declared.LmmAnswer.{LmmAnswer}
 use Rattle.call_send_answer.specs.declared.LmmAnswer.the-variants.{NotWellFormed, NoRoom, Sent}
 use Rattle.message_parts.specs.declared.parts.WrittenTold.{WrittenTold}
-use Rattle.message_parts.specs.Buffer.{numbers}
+use Rattle.message_parts.specs.Buffer.{tellWritten}
 use Rattle.call_send_answer.specs.Told.{lmmTold}
 
 -- to the loss peer, from us, with our sent count
@@ -39,10 +39,10 @@ sendLmm s buffer =
 unfoldable pub lmmNumbers : State → List ℕ → WrittenTold
 lmmNumbers s buffer =
     choose (
-    (not (wellFormed s), numbers 2 0)
-    ∷ (ltb (length buffer) lmmLength, numbers 3 0)
+    (not (wellFormed s), tellWritten 2 0)
+    ∷ (ltb (length buffer) lmmLength, tellWritten 3 0)
     ∷ [])
-    (numbers 0 lmmLength)
+    (tellWritten 0 lmmLength)
 
 -- what is said of every state and every buffer
 pub record SendsLmm : Type 0 where

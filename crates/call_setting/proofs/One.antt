@@ -1,4 +1,5 @@
--- Two outcomes that a contract allows are equal: one answer and one state. Nothing that is lent is written. Stated over `Reads.Post`, which the
+-- Two outcomes that a contract allows are equal: one answer and one state. Nothing that is lent is written. Stated over `Reads.Post`, which
+-- the
 -- check reads off the source's own clauses. Assumes nothing.
 use mathlib.Core.Path.{_≡_, sym, _∙_}
 use Rattle.call_setting.proofs.new_setting.Reads as new-setting

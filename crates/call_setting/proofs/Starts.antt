@@ -15,8 +15,9 @@ use Rattle.loss_session.proofs.Laws.{cleared-well}
 use Rattle.state_view.specs.State.{shown}
 use Rattle.state_view.specs.WellFormed.{WellFormed}
 use Rattle.call_setting.specs.declared.SettingAnswer.the-variants.{Invalid, Set}
-use Rattle.call_setting.specs.Told.{told}
-use Rattle.call_setting.specs.Start.{startOf, zeroState, afterSetting, answerOf, startedWith, noState, settingOf, numbersOf, Starts}
+use Rattle.call_setting.specs.Told.{settingTold}
+use Rattle.call_setting.specs.Start.{startOf, zeroState, afterSetting, answerOf, startedWith, noState, settingOf, settingNumbers}
+use Rattle.call_setting.specs.Start.{Starts}
 
 -- zeros, at every place and past the end
 zeros-at : (n i : ℕ) → getD {A = ℕ} (replicate n 0) i 0 ≡ 0
@@ -55,12 +56,12 @@ zero-not w = let h : 1 ≤ 0 = w .settings .some-period in omega arith
 
 -- ── valid or not ──
 
-tells : (b : Bool) → told (cond b Set Invalid) ≡ cond b (record { refusal = 0 }) (record { refusal = 4 })
-unfolding told
+tells : (b : Bool) → settingTold (cond b Set Invalid) ≡ cond b (record { refusal = 0 }) (record { refusal = 4 })
+unfolding settingTold
 tells true = refl
 tells false = refl
 
-pub agree : (s : Settings) → told (answerOf s) ≡ numbersOf s
+pub agree : (s : Settings) → settingTold (answerOf s) ≡ settingNumbers s
 agree s = tells (valid s)
 
 module _ (words names ids : List ℕ) where
@@ -69,7 +70,8 @@ module _ (words names ids : List ℕ) where
   answered true = refl
   answered false = refl
 
-  handed-out : (b : Bool) → shown (cond b (startedWith words names ids) noState .state) ≡ cond b (startOf (settingsOf words names ids)) zeroState
+  handed-out : (b : Bool) → shown (cond b (startedWith words names ids) noState .state) ≡ cond b
+      (startOf (settingsOf words names ids)) zeroState
   unfolding startedWith noState
   handed-out true = refl
   handed-out false = refl

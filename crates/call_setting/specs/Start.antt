@@ -19,7 +19,7 @@ use Rattle.state_view.specs.WellFormed.{WellFormed}
 use Rattle.call_setting.specs.declared.SettingAnswer.{SettingAnswer}
 use Rattle.call_setting.specs.declared.SettingAnswer.the-variants.{Invalid, Set}
 use Rattle.call_setting.specs.declared.SettingTold.{SettingTold}
-use Rattle.call_setting.specs.Told.{told}
+use Rattle.call_setting.specs.Told.{settingTold}
 use Rattle.call_setting.specs.declared.Started.{Started}
 
 abbrev pub startOf : Settings → State
@@ -87,15 +87,15 @@ settingOf words names ids = cond (valid (settingsOf words names ids)) (startedWi
 
 -- ── in the paper's numbers ──
 
-abbrev pub numbersOf : Settings → SettingTold
-numbersOf s = cond (valid s) (record { refusal = 0 }) (record { refusal = 4 })
+abbrev pub settingNumbers : Settings → SettingTold
+settingNumbers s = cond (valid s) (record { refusal = 0 }) (record { refusal = 4 })
 
 -- what is said of every setting
 pub record Starts : Type 0 where
   -- a valid one starts well formed, and the all-zero state is not well formed
   pub well : (s : Settings) → Valid s → WellFormed (startOf s)
   pub zero-not : WellFormed zeroState → ⊥
-  pub agree : (s : Settings) → told (answerOf s) ≡ numbersOf s
+  pub agree : (s : Settings) → settingTold (answerOf s) ≡ settingNumbers s
   -- what lies in the arrays is the answer and the state of the definitions above
   pub answers : (words names ids : List ℕ) → settingOf words names ids .answer ≡ answerOf (settingsOf words names ids)
   pub hands-out : (words names ids : List ℕ) → shown (settingOf words names ids .state) ≡ afterSetting (settingsOf words names ids)

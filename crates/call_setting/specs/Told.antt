@@ -4,6 +4,6 @@ use Rattle.call_setting.specs.declared.SettingAnswer.the-variants.{Inval
 use Rattle.call_setting.specs.declared.SettingTold.{SettingTold}
 
 -- refusal 4, or none
-unfoldable pub told : SettingAnswer → SettingTold
-told Invalid = record { refusal = 4 }
-told Set = record { refusal = 0 }
+unfoldable pub settingTold : SettingAnswer → SettingTold
+settingTold Invalid = record { refusal = 4 }
+settingTold Set = record { refusal = 0 }

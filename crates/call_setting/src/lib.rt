@@ -4,8 +4,8 @@
 ghost use mathlib.Core.Path.{_≡_};
 ghost use Rattle.base_laws.specs.Lists.{onFirst};
 ghost use Rattle.state_settings.specs.Settings.{slots, lentSettings, Shaped};
-ghost use Rattle.call_setting.specs.Told.{told};
-ghost use Rattle.call_setting.specs.Start.{noState, startedWith, settingOf, numbersOf};
+ghost use Rattle.call_setting.specs.Told.{settingTold};
+ghost use Rattle.call_setting.specs.Start.{noState, startedWith, settingOf, settingNumbers};
 use base_period::hold_of;
 use base_period::ticks_of;
 use state_settings::COUNT;
@@ -37,7 +37,7 @@ pub struct SettingTold {
 
 // An answer in the paper's numbers.
 pub fn tell(answer: SettingAnswer) -> SettingTold
-    ensures { λ r. ⌜ r ≡ told answer ⌝ }
+    ensures { λ r. ⌜ r ≡ settingTold answer ⌝ }
 {
     match answer {
         SettingAnswer::Invalid => SettingTold { refusal: 4 },
@@ -111,7 +111,7 @@ fn begin(set: &Set, names: &Names, ids: &Slots) -> Started
 // Takes settings as they lie: the state that they start with, or all zeros where they are not valid. It takes no old state.
 pub fn new_setting(set: &Set, names: &Names, ids: &Slots) -> Started
     ensures { λ r. ⌜ r ≡ settingOf (now (set .entry)) (now (names .entry)) (now (ids .entry)) ⌝ }
-    ensures { λ r. ⌜ told (r .answer) ≡ numbersOf (lentSettings set names ids) ⌝ }
+    ensures { λ r. ⌜ settingTold (r .answer) ≡ settingNumbers (lentSettings set names ids) ⌝ }
     ensures { λ _. ⌜ Shaped slots (lentSettings set names ids) ⌝ }
 {
     // a view of an array tells its length, and costs nothing

@@ -19,12 +19,12 @@ use Rattle.message_ccm.specs.Continuity.{ccmLength}
 use Rattle.call_tick_ccm.specs.Ccm.{ccmOf}
 use Rattle.call_send_answer.specs.declared.TickAnswer.{TickAnswer}
 use Rattle.call_send_answer.specs.declared.TickAnswer.the-variants.{NotWellFormed, NoRoom, Quiet, Sent}
-use Rattle.call_tick.specs.Tick.{tickedOf, tickOf, numbersOf}
+use Rattle.call_tick.specs.Tick.{tickedOf, tickOf, tickNumbers}
 use Rattle.call_send_answer.specs.Told.{tickTold}
 
 -- an answer is told as the paper numbers it
-pub agree : (s : State) (buffer : List ℕ) → tickTold (tickOf s buffer .answer) ≡ numbersOf s buffer
-unfolding tickOf tickTold numbersOf
+pub agree : (s : State) (buffer : List ℕ) → tickTold (tickOf s buffer .answer) ≡ tickNumbers s buffer
+unfolding tickOf tickTold tickNumbers
 agree s buffer = choose-map (λ (t : Ended State TickAnswer). tickTold (t .answer)) _ _
 
 -- there is room for the message, so it is laid
@@ -41,7 +41,7 @@ bad s {b} e h = sym e ∙ not-true b h
 module _ (s : State) (buffer : List ℕ) where
   -- r, x and y are the outcome, and r is told by its number
   abbrev pub Outcome : TickAnswer → State → List ℕ → Type 0
-  Outcome r x y = (ended r x y ≡ tickOf s buffer) × (tickTold r ≡ numbersOf s buffer)
+  Outcome r x y = (ended r x y ≡ tickOf s buffer) × (tickTold r ≡ tickNumbers s buffer)
 
   numbered : {r : TickAnswer} {x : State} {y : List ℕ} → tickOf s buffer ≡ ended r x y → Outcome r x y
   numbered e = (sym e, ap (λ (t : Ended State TickAnswer). tickTold (t .answer)) (sym e) ∙ agree s buffer)
@@ -81,7 +81,8 @@ module _ (s : State) (buffer : List ℕ) where
   pub ends-3 : wellFormed s ≡ true → s .next ≤ 1 → length buffer < 89 → Outcome NoRoom s buffer
   ends-3 w h k = numbered (at-3 w h k)
 
-  pub ends-sent : {v : ℕ} {x : State} {y : List ℕ} → wellFormed s ≡ true → s .next ≤ 1 → 89 ≤ length buffer → v ≡ ticksOf (s .settings .period)
+  pub ends-sent : {v : ℕ} {x : State} {y : List ℕ} → wellFormed s ≡ true → s .next ≤ 1 → 89 ≤ length buffer
+      → v ≡ ticksOf (s .settings .period)
       → x ≡ put next v (lowered s) → y ≡ bufferOf (ccmOf x) buffer → length (ccmOf x) ≡ 89 → Outcome (Sent ccmLength) x y
   ends-sent {x = x} w h k v e f n =
       let t = e ∙ ap (λ (u : ℕ). put next u (lowered s)) v ∙ next-last h in

@@ -26,7 +26,8 @@ pub data Case (s : State) (buffer : List ℕ) : Type 0 where
   bad : (WellFormed s → ⊥) → tickOf s buffer ≡ ended NotWellFormed s buffer → Case s buffer
   goes-on : WellFormed s → 1 < s .next → tickOf s buffer ≡ ended Quiet (tickedOf s) buffer → Case s buffer
   short : WellFormed s → s .next ≡ 1 → length buffer < 89 → tickOf s buffer ≡ ended NoRoom s buffer → Case s buffer
-  sends : WellFormed s → s .next ≡ 1 → 89 ≤ length buffer → tickOf s buffer ≡ ended (Sent ccmLength) (tickedOf s) (laid 0 (ccmOf (tickedOf s)) buffer) → Case s buffer
+  sends : WellFormed s → s .next ≡ 1 → 89 ≤ length buffer
+      → tickOf s buffer ≡ ended (Sent ccmLength) (tickedOf s) (laid 0 (ccmOf (tickedOf s)) buffer) → Case s buffer
 
 pub most : {n : ℕ} → n ≡ 1 → n ≤ 1
 most e = omega arith
@@ -55,7 +56,8 @@ cases s buffer = ⊎-elim good (λ f. bad (failed (well-formed-is .well-formed-i
     good : wellFormed s ≡ true → Case s buffer
     good t =
         ⊎-elim
-        (λ (k : ltb 1 (s .next) ≡ true). let h = ltb-true 1 (s .next) k in goes-on (well-formed-is .well-formed-is s .0 t) h (at-quiet s buffer t h))
+        (λ (k : ltb 1 (s .next) ≡ true). let h = ltb-true 1 (s .next) k in
+        goes-on (well-formed-is .well-formed-is s .0 t) h (at-quiet s buffer t h))
         (λ (k : ltb 1 (s .next) ≡ false). last t (ltb-false 1 (s .next) k))
         (known (ltb 1 (s .next)))
 

@@ -68,7 +68,8 @@ module _ (s : State) (buffer : List ℕ) where
   untouched part h (sends v i k e) = ap (λ (t : Ended State TickAnswer). part (t .state)) e ∙ h
 
 -- a tick has four answers and no other, so what holds of the four holds of each
-module _ (P : TickAnswer → Type 0) (p2 : P NotWellFormed) (quiet : P Quiet) (p3 : P NoRoom) (sent : P (Sent ccmLength)) (s : State) (buffer : List ℕ) where
+module _ (P : TickAnswer → Type 0) (p2 : P NotWellFormed) (quiet : P Quiet) (p3 : P NoRoom) (sent : P (Sent ccmLength)) (s : State)
+    (buffer : List ℕ) where
   holds : Case s buffer → P (tickOf s buffer .answer)
   holds (bad n e) = subst P (sym (answer-is e)) p2
   holds (goes-on v h e) = subst P (sym (answer-is e)) quiet
@@ -83,9 +84,21 @@ unfolding numbered
 ticks = record {
   stays = λ s b. stays s b (cases s b);
   refuses-2 = λ s b. (λ a. is-2 s b (cases s b) (ap numbered a), λ n. answer-is (at-2 s b (fails (well-formed-is .well-formed-is s) n)));
-  refuses-3 = λ s b. (λ a. is-3 s b (cases s b) (ap numbered a), λ h. answer-is (at-3 s b (well-formed-is .well-formed-is s .1 (h .0)) (most (h .1)) (h .2)));
-  quiet = λ s b. (λ a. is-quiet s b (cases s b) (ap numbered a), λ h. answer-is (at-quiet s b (well-formed-is .well-formed-is s .1 (h .0)) (h .1)));
-  sends = λ s b. (λ a. is-sent s b (cases s b) (ap numbered a), λ h. answer-is (at-sent s b (well-formed-is .well-formed-is s .1 (h .0)) (most (h .1)) (h .2)));
+  refuses-3 = λ s b. (
+    λ a. is-3 s b (cases s b) (ap numbered a),
+    λ h. answer-is
+        (at-3 s b (well-formed-is .well-formed-is s .1 (h .0)) (most (h .1)) (h .2)),
+  );
+  quiet = λ s b. (
+    λ a. is-quiet s b (cases s b) (ap numbered a),
+    λ h. answer-is
+        (at-quiet s b (well-formed-is .well-formed-is s .1 (h .0)) (h .1)),
+  );
+  sends = λ s b. (
+    λ a. is-sent s b (cases s b) (ap numbered a),
+    λ h. answer-is
+        (at-sent s b (well-formed-is .well-formed-is s .1 (h .0)) (most (h .1)) (h .2)),
+  );
   refused = λ s b. refused s b (cases s b);
   enough = λ s b. enough s b (cases s b);
   passes = λ s b. passes s b (cases s b);

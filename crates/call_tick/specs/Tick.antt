@@ -15,7 +15,7 @@ use Rattle.state_view.specs.State.{State}
 use Rattle.state_view.specs.WellFormed.{WellFormed, wellFormed}
 use Rattle.state_view.specs.Changed.{next, put, lowered}
 use Rattle.message_parts.specs.declared.parts.WrittenTold.{WrittenTold}
-use Rattle.message_parts.specs.Buffer.{numbers}
+use Rattle.message_parts.specs.Buffer.{tellWritten}
 use Rattle.message_ccm.specs.Continuity.{ccmLength}
 use Rattle.call_send_answer.specs.Told.{tickTold}
 use Rattle.call_tick_ccm.specs.Ccm.{ccmOf}
@@ -51,14 +51,14 @@ tickOf s buffer =
 -- ── in the paper's numbers ──
 
 -- the same from the state and the buffer alone
-unfoldable pub numbersOf : State → List ℕ → WrittenTold
-numbersOf s buffer =
+unfoldable pub tickNumbers : State → List ℕ → WrittenTold
+tickNumbers s buffer =
     choose (
-    (not (wellFormed s), numbers 2 0)
-    ∷ (ticksLeft s, numbers 0 0)
-    ∷ (ltb (length buffer) ccmLength, numbers 3 0)
+    (not (wellFormed s), tellWritten 2 0)
+    ∷ (ticksLeft s, tellWritten 0 0)
+    ∷ (ltb (length buffer) ccmLength, tellWritten 3 0)
     ∷ [])
-    (numbers 0 ccmLength)
+    (tellWritten 0 ccmLength)
 
 -- what is said of every state and every buffer
 pub record Ticks : Type 0 where
@@ -87,4 +87,4 @@ pub record Ticks : Type 0 where
   pub received-stays : (s : State) (buffer : List ℕ) → tickOf s buffer .state .received ≡ s .received
   pub session-stays : (s : State) (buffer : List ℕ) → tickOf s buffer .state .session ≡ s .session
   -- an answer is told as the paper numbers it
-  pub agree : (s : State) (buffer : List ℕ) → tickTold (tickOf s buffer .answer) ≡ numbersOf s buffer
+  pub agree : (s : State) (buffer : List ℕ) → tickTold (tickOf s buffer .answer) ≡ tickNumbers s buffer

@@ -5,7 +5,7 @@ ghost use Rattle.base_laws.specs.Ended.{ended};
 ghost use Rattle.state_view.specs.State.{before, afterTick};
 ghost use Rattle.state_places.specs.Stored.{Whole};
 ghost use Rattle.call_send_answer.specs.Told.{tickTold};
-ghost use Rattle.call_tick.specs.Tick.{tickOf, numbersOf};
+ghost use Rattle.call_tick.specs.Tick.{tickOf, tickNumbers};
 use base_period::ticks_of;
 use call_send_answer::TickAnswer;
 use call_tick_ccm::write_own_ccm;
@@ -33,7 +33,7 @@ pub fn tick(
 ) -> TickAnswer
     ensures { λ r. ⌜ (ended r (afterTick set names ids timers rdi run totals) (now (out .exit)) ≡
         tickOf (before set names ids timers rdi run totals) (now (out .entry)))
-        × (tickTold r ≡ numbersOf (before set names ids timers rdi run totals) (now (out .entry))) ⌝ }
+        × (tickTold r ≡ tickNumbers (before set names ids timers rdi run totals) (now (out .entry))) ⌝ }
     ensures { λ _. ⌜ Whole (now (run .exit)) (now (totals .entry)) ⌝ }
 {
     // a view of an array tells its length, and costs nothing

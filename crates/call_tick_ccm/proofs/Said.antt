@@ -29,7 +29,8 @@ module _ (s : State) where
   }
 
   -- what was written with the state's own parts is the state's CCM
-  pub said : (own meg : List ℕ) (rdi : ℕ) (stands : Bool) → own ≡ s .settings .own → meg ≡ s .settings .meg → rdi ≡ flag stands → stands ≡ standing s
+  pub said : (own meg : List ℕ) (rdi : ℕ) (stands : Bool) → own ≡ s .settings .own → meg ≡ s .settings .meg → rdi ≡ flag stands
+      → stands ≡ standing s
       → ccmOctets own meg (saidWith rdi) ≡ ccmOf s
   unfolding ccmOf
   said own meg rdi stands h k m n = rw (h, k, m ∙ ap flag n)

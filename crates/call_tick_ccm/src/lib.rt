@@ -2,7 +2,7 @@
 ghost use mathlib.Core.Path.{_≡_};
 ghost use lib.ListN.{length};
 ghost use Rattle.state_view.specs.State.{before};
-ghost use Rattle.message_parts.specs.Buffer.{writtenOf, bufferOf, told, numbersOf};
+ghost use Rattle.message_parts.specs.Buffer.{writtenOf, bufferOf, writtenTold, writtenNumbers};
 ghost use Rattle.message_ccm.specs.Continuity.{ccmLength};
 ghost use Rattle.call_tick_ccm.specs.Ccm.{ccmOf};
 use message_ccm::CcmValues;
@@ -31,7 +31,7 @@ pub fn write_own_ccm(
     out: &mut [u8],
 ) -> Written
     ensures { λ r. ⌜ (r ≡ writtenOf (ccmOf (before set names ids timers rdi run totals)) (now (out .entry)))
-        × (told r ≡ numbersOf (ccmOf (before set names ids timers rdi run totals)) (now (out .entry))) ⌝ }
+        × (writtenTold r ≡ writtenNumbers (ccmOf (before set names ids timers rdi run totals)) (now (out .entry))) ⌝ }
     ensures { λ _. ⌜ (now (out .exit) ≡ bufferOf (ccmOf (before set names ids timers rdi run totals)) (now (out .entry)))
         × (length (ccmOf (before set names ids timers rdi run totals)) ≡ ccmLength) ⌝ }
 {

@@ -1,4 +1,5 @@
--- Two results that a contract allows are equal; of a returned part, its octets and its place. Stated over `Reads.Post`, which the check reads
+-- Two results that a contract allows are equal; of a returned part, its octets and its place. Stated over `Reads.Post`, which the check
+-- reads
 -- off the source's own clauses. Assumes nothing.
 use mathlib.Core.Path.{_≡_, sym, _∙_}
 use denote.Ref.{now, ptr}
@@ -8,13 +9,16 @@ use Rattle.frame_head.proofs.pdu_of.Reads as pdu-of
 use Rattle.frame_head.proofs.level.Reads as level
 use Rattle.frame_head.proofs.version.Reads as version
 
-pub destination-one : (κs : _) (a : _) (r r′ : _) (s s′ : _) → destination.Post κs a r s → destination.Post κs a r′ s′ → (now r ≡ now r′) × (ptr r ≡ ptr r′)
+pub destination-one : (κs : _) (a : _) (r r′ : _) (s s′ : _) → destination.Post κs a r s → destination.Post κs a r′ s′ → (now r ≡ now r′)
+    × (ptr r ≡ ptr r′)
 destination-one κs a r r′ s s′ p q = (p .0 ∙ sym (q .0), p .1 ∙ sym (q .1))
 
-pub source-one : (κs : _) (a : _) (r r′ : _) (s s′ : _) → source.Post κs a r s → source.Post κs a r′ s′ → (now r ≡ now r′) × (ptr r ≡ ptr r′)
+pub source-one : (κs : _) (a : _) (r r′ : _) (s s′ : _) → source.Post κs a r s → source.Post κs a r′ s′ → (now r ≡ now r′)
+    × (ptr r ≡ ptr r′)
 source-one κs a r r′ s s′ p q = (p .0 ∙ sym (q .0), p .1 ∙ sym (q .1))
 
-pub pdu-of-one : (κs : _) (a : _) (r r′ : _) (s s′ : _) → pdu-of.Post κs a r s → pdu-of.Post κs a r′ s′ → (now r ≡ now r′) × (ptr r ≡ ptr r′)
+pub pdu-of-one : (κs : _) (a : _) (r r′ : _) (s s′ : _) → pdu-of.Post κs a r s → pdu-of.Post κs a r′ s′ → (now r ≡ now r′)
+    × (ptr r ≡ ptr r′)
 pdu-of-one κs a r r′ s s′ p q = (p .0 ∙ sym (q .0), p .1 ∙ sym (q .1))
 
 pub level-one : (κs : _) (a : _) (r r′ : _) (s s′ : _) → level.Post κs a r s → level.Post κs a r′ s′ → r ≡ r′

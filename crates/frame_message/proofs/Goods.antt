@@ -42,7 +42,8 @@ shifted kind zero k at (t ∷ xs) =
     (λ (b : ltb (length xs) (2 + lengthOf xs) ≡ false).
     ⊎-elim
     (λ (c : eqb t kind ≡ true). rw (a, b, c) (ap (λ (n : ℕ). Found n (lengthOf xs)) (add-assoc k at 3)))
-    (λ (c : eqb t kind ≡ false). rw (a, b, c) (ap (walk kind (2 + lengthOf xs) xs) (add-assoc k at 1) ∙ shifted kind (2 + lengthOf xs) k (at + 1) xs))
+    (λ (c : eqb t kind ≡ false). rw (a, b, c) (ap (walk kind (2 + lengthOf xs) xs) (add-assoc k at 1)
+    ∙ shifted kind (2 + lengthOf xs) k (at + 1) xs))
     (if-known (eqb t kind)))
     (if-known (ltb (length xs) (2 + lengthOf xs))))
     (if-known (eqb t 0))
@@ -62,7 +63,8 @@ answer-shifted k (Found s l) (Found t m) = refl
 answer-shifted k (Found s l) (End e) = refl
 answer-shifted k (Found s l) (Cut e) = refl
 
-value-shifted : (f : List ℕ) (k : ℕ) (ending w : Place) → partOf f (inFrame (whole (shift k ending) (shift k w))) ≡ partOf (drop (headLength + k) f) (whole ending w)
+value-shifted : (f : List ℕ) (k : ℕ) (ending w : Place)
+    → partOf f (inFrame (whole (shift k ending) (shift k w))) ≡ partOf (drop (headLength + k) f) (whole ending w)
 unfolding shift
 value-shifted f k (Cut at) w = refl
 value-shifted f k (End at) (Found s l) = ap (λ (n : ℕ). part n l f) (sym (add-assoc 14 k s)) ∙ sym (part-drop (14 + k) s l f)

@@ -14,30 +14,30 @@ use Rattle.frame_reader_answer.specs.declared.TlvAnswer.the-variants as tlv
 use Rattle.frame_reader_answer.specs.declared.TlvTold.{TlvTold}
 use Rattle.frame_head.specs.Head.{pduOf, opcodeOf, flagsOf}
 use Rattle.frame_reader.specs.Reader.{answerOf}
-use Rattle.frame_reader_answer.specs.Told.{badOf, told as reader-told}
+use Rattle.frame_reader_answer.specs.Told.{badOf, tlvTold}
 use Rattle.frame_reader.specs.Numbers as Reader
 use Rattle.frame_reader.proofs.Numbers.{agree as reader-agree}
 use Rattle.frame_message_answer.specs.declared.MessageAnswer.{MessageAnswer}
 use Rattle.frame_message_answer.specs.declared.MessageTold.{MessageTold}
 use Rattle.frame_message.specs.Good.{Good, isBad}
 use Rattle.frame_message.specs.Message.{periodCode, codeGood, judgedOf, unlessBad, messageOf}
-use Rattle.frame_message_answer.specs.Told.{told}
-use Rattle.frame_message.specs.Told.{isGood, behind, numbersOf, goodOpcode, MessageNumbers}
+use Rattle.frame_message_answer.specs.Told.{messageTold}
+use Rattle.frame_message.specs.Told.{isGood, behind, messageNumbers, goodOpcode, MessageNumbers}
 use Rattle.frame_message.proofs.Goods.{good-frames}
 
 -- ── what is told ──
 
 -- of a message that the reader lets through
-judged-told : (op flags : ℕ) → told (judgedOf op flags) ≡ behind (reader-told tlv.NoSuch) op flags
-unfolding told judgedOf reader-told choose
+judged-told : (op flags : ℕ) → messageTold (judgedOf op flags) ≡ behind (tlvTold tlv.NoSuch) op flags
+unfolding messageTold judgedOf tlvTold choose
 judged-told op flags =
     ⊎-elim
     (λ (t : codeGood (ruleOf op) (periodCode flags) ≡ true). rw t)
     (λ (t : codeGood (ruleOf op) (periodCode flags) ≡ false). rw t)
     (if-known (codeGood (ruleOf op) (periodCode flags)))
 
-tells : (a : TlvAnswer) (op flags : ℕ) → told (unlessBad a (judgedOf op flags)) ≡ behind (reader-told a) op flags
-unfolding told reader-told badOf choose
+tells : (a : TlvAnswer) (op flags : ℕ) → messageTold (unlessBad a (judgedOf op flags)) ≡ behind (tlvTold a) op flags
+unfolding messageTold tlvTold badOf choose
 tells tlv.NoSuch op flags = judged-told op flags
 tells tlv.Value op flags = judged-told op flags
 tells (tlv.Bad Length) op flags = refl
@@ -46,20 +46,20 @@ tells (tlv.Bad Opcode) op flags = refl
 tells (tlv.Bad Offset) op flags = refl
 tells (tlv.Bad CutOff) op flags = refl
 
-pub agree : (f : List ℕ) → told (messageOf f) ≡ numbersOf f
+pub agree : (f : List ℕ) → messageTold (messageOf f) ≡ messageNumbers f
 unfolding messageOf
 agree f =
     tells (answerOf f 0) (opcodeOf (pduOf f)) (flagsOf (pduOf f))
     ∙ ap (λ (t : TlvTold). behind t (opcodeOf (pduOf f)) (flagsOf (pduOf f))) (reader-agree f 0)
 
 -- an answer that is the definition's tells the chain's numbers
-pub numbered : (f : List ℕ) (r : MessageAnswer) → r ≡ messageOf f → (r ≡ messageOf f) × (told r ≡ numbersOf f)
-numbered f r e = (e, ap told e ∙ agree f)
+pub numbered : (f : List ℕ) (r : MessageAnswer) → r ≡ messageOf f → (r ≡ messageOf f) × (messageTold r ≡ messageNumbers f)
+numbered f r e = (e, ap messageTold e ∙ agree f)
 
 -- ── the opcode that is told ──
 
-good-told : (a : TlvAnswer) → isGood (reader-told a) ≡ not (isBad a)
-unfolding reader-told badOf
+good-told : (a : TlvAnswer) → isGood (tlvTold a) ≡ not (isBad a)
+unfolding tlvTold badOf
 good-told tlv.NoSuch = refl
 good-told tlv.Value = refl
 good-told (tlv.Bad Length) = refl
@@ -69,7 +69,7 @@ good-told (tlv.Bad Offset) = refl
 good-told (tlv.Bad CutOff) = refl
 
 -- no reason is told exactly of a good frame
-good-is : (f : List ℕ) → isGood (Reader.numbersOf f 0) ≡ not (isBad (answerOf f 0))
+good-is : (f : List ℕ) → isGood (Reader.tlvNumbers f 0) ≡ not (isBad (answerOf f 0))
 good-is f = ap isGood (sym (reader-agree f 0)) ∙ good-told (answerOf f 0)
 
 -- which of the three is told
@@ -97,7 +97,7 @@ module _ (f : List ℕ) where
   unfolding code
   only n =
       ⊎-elim
-      (λ (t : isGood (Reader.numbersOf f 0) ≡ true).
+      (λ (t : isGood (Reader.tlvNumbers f 0) ≡ true).
       ⊎-elim
       (λ (c : code ≡ true). (
         good-frames .read f 0 .0 (not-true (isBad (answerOf f 0)) (sym (good-is f) ∙ t)),
@@ -106,8 +106,8 @@ module _ (f : List ℕ) where
       ))
       (λ (c : code ≡ false). absurd (n (ap (λ (m : MessageTold). m .opcode) (second _ _ _ _ _ t c))))
       (if-known code))
-      (λ (t : isGood (Reader.numbersOf f 0) ≡ false). absurd (n (ap (λ (m : MessageTold). m .opcode) (first _ code _ _ _ t))))
-      (if-known (isGood (Reader.numbersOf f 0)))
+      (λ (t : isGood (Reader.tlvNumbers f 0) ≡ false). absurd (n (ap (λ (m : MessageTold). m .opcode) (first _ code _ _ _ t))))
+      (if-known (isGood (Reader.tlvNumbers f 0)))
 
 pub message-numbers : MessageNumbers
 message-numbers = record { agree = agree; opcode = opcode; only = only }

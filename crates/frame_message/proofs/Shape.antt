@@ -28,13 +28,16 @@ module _ (addresses pdu : List ℕ) (a : length addresses ≡ 12) where
 
   pub ether-is : etherTypeOf (framed addresses pdu) ≡ 0x8902
   unfolding number numberLowestFirst
-  ether-is = ap (λ (l : List ℕ). number bigEndian (part 12 2 l)) split ∙ ap (number bigEndian) (part-here addresses (0x89 ∷ 0x02 ∷ []) pdu 12 2 a refl)
+  ether-is =
+      ap (λ (l : List ℕ). number bigEndian (part 12 2 l)) split
+      ∙ ap (number bigEndian) (part-here addresses (0x89 ∷ 0x02 ∷ []) pdu 12 2 a refl)
 
   pub framed-long : length (framed addresses pdu) ≡ 14 + length pdu
   framed-long = rw length-append (omega arith)
 
 -- nothing before the TLVs is wrong with a known opcode, a large enough offset and not too many octets
-pub headed : (addresses rest : List ℕ) (first op flags offset : ℕ) → length addresses ≡ 12 → ruleOf op .known ≡ true → ruleOf op .least ≤ offset
+pub headed : (addresses rest : List ℕ) (first op flags offset : ℕ) → length addresses ≡ 12 → ruleOf op .known ≡ true
+    → ruleOf op .least ≤ offset
     → 18 + length rest ≤ 1514 → Headed (framed addresses (first ∷ op ∷ flags ∷ offset ∷ rest))
 headed addresses rest first op flags offset a k o l =
     let pdu : List ℕ = first ∷ op ∷ flags ∷ offset ∷ rest in

@@ -34,7 +34,8 @@ module _ (f : List ℕ) {p : List ℕ} {r : ℕ} (pdu : p ≡ pduOf f) (opcode :
   one k n e h l = omega (arith, l, ap length pdu, there f k (sym opcode ∙ e) h)
 
   -- of a message whose opcode is one of two
-  pub two : (a b n : ℕ) → (not (eqb r a) && not (eqb r b)) ≡ false → 0 < a → 0 < b → ruleOf a .least ≡ n → ruleOf b .least ≡ n → 4 + n < length p
+  pub two : (a b n : ℕ) → (not (eqb r a) && not (eqb r b)) ≡ false → 0 < a → 0 < b → ruleOf a .least ≡ n → ruleOf b .least ≡ n
+      → 4 + n < length p
   two a b n t ha hb la lb =
       ⊎-elim
       (λ (e : eqb r a ≡ true). one a n (eqb-true r a e) ha la)
@@ -49,5 +50,6 @@ module _ (f : List ℕ) {p : List ℕ} {r : ℕ} (pdu : p ≡ pduOf f) (opcode :
     pub is-not : (k : ℕ) → (r ≡ k → ⊥) → cond (eqb (goodOpcode f) k) x y ≡ y
     is-not k n = rw (ne-eqb (goodOpcode f) k (λ e. n (opcode ∙ e)))
 
-    pub either : (a b : ℕ) (t : Bool) → (not (eqb r a) && not (eqb r b)) ≡ t → cond (eqb (goodOpcode f) a || eqb (goodOpcode f) b) x y ≡ cond (not t) x y
+    pub either : (a b : ℕ) (t : Bool) → (not (eqb r a) && not (eqb r b)) ≡ t
+        → cond (eqb (goodOpcode f) a || eqb (goodOpcode f) b) x y ≡ cond (not t) x y
     either a b t e = ap (λ (b : Bool). cond b x y) (ap (λ (o : ℕ). eqb o a || eqb o b) (sym opcode) ∙ neither (eqb r a) (eqb r b) t e)

@@ -10,7 +10,7 @@ use Rattle.frame_reader_answer.specs.declared.TlvTold.{TlvTold}
 use Rattle.frame_head.specs.Head.{pduOf, opcodeOf, flagsOf}
 use Rattle.frame_reader.specs.Numbers as Reader
 use Rattle.frame_message_answer.specs.declared.MessageTold.{MessageTold}
-use Rattle.frame_message_answer.specs.Told.{numbers, told}
+use Rattle.frame_message_answer.specs.Told.{tellMessage, messageTold}
 use Rattle.frame_message.specs.Good.{Good}
 use Rattle.frame_message.specs.Message.{periodCode, codeGood, messageOf}
 
@@ -22,21 +22,21 @@ isGood t = eqb (t .refusal) 0 && eqb (t .drop) 0
 abbrev pub behind : TlvTold → ℕ → ℕ → MessageTold
 behind t opcode flags =
     choose (
-    (not (isGood t), numbers (t .refusal) (t .drop) 0)
-    ∷ (not (codeGood (ruleOf opcode) (periodCode flags)), numbers 0 7 0)
+    (not (isGood t), tellMessage (t .refusal) (t .drop) 0)
+    ∷ (not (codeGood (ruleOf opcode) (periodCode flags)), tellMessage 0 7 0)
     ∷ [])
-    (numbers 0 0 opcode)
+    (tellMessage 0 0 opcode)
 
-abbrev pub numbersOf : List ℕ → MessageTold
-numbersOf f = behind (Reader.numbersOf f 0) (opcodeOf (pduOf f)) (flagsOf (pduOf f))
+abbrev pub messageNumbers : List ℕ → MessageTold
+messageNumbers f = behind (Reader.tlvNumbers f 0) (opcodeOf (pduOf f)) (flagsOf (pduOf f))
 
 -- the opcode of a good frame; 0 of a bad one
 abbrev pub goodOpcode : List ℕ → ℕ
-goodOpcode f = numbersOf f .opcode
+goodOpcode f = messageNumbers f .opcode
 
 -- what is said of every frame, and of every answer
 pub record MessageNumbers : Type 0 where
-  pub agree : (f : List ℕ) → told (messageOf f) ≡ numbersOf f
+  pub agree : (f : List ℕ) → messageTold (messageOf f) ≡ messageNumbers f
   -- an opcode is told of a good frame with a good period code, and of no other; it is the frame's
   pub opcode : (f : List ℕ) → Good f → codeGood (ruleOf (opcodeOf (pduOf f))) (periodCode (flagsOf (pduOf f))) ≡ true → goodOpcode f ≡ opcodeOf (pduOf f)
   pub only : (f : List ℕ) → (goodOpcode f ≡ 0 → ⊥)

@@ -2,8 +2,8 @@
 // Nothing here knows of settings or state.
 ghost use mathlib.Core.Path.{_≡_};
 ghost use Rattle.frame_message.specs.Message.{codeGood, judgedOf, messageOf};
-ghost use Rattle.frame_message.specs.Told.{numbersOf, goodOpcode};
-ghost use Rattle.frame_message_answer.specs.Told.{told};
+ghost use Rattle.frame_message.specs.Told.{messageNumbers, goodOpcode};
+ghost use Rattle.frame_message_answer.specs.Told.{messageTold};
 use base_bits::period_code_of;
 use frame_head::pdu_of;
 use frame_message_answer::MessageAnswer;
@@ -33,7 +33,7 @@ fn judged(opcode: u8, flags: u8) -> MessageAnswer
 
 // Tells which message a frame is: a reason, D7, or its opcode.
 pub fn message_answer(frame: &[u8]) -> MessageAnswer
-    ensures { λ r. ⌜ (r ≡ messageOf (now (frame .entry))) × (told r ≡ numbersOf (now (frame .entry))) ⌝ }
+    ensures { λ r. ⌜ (r ≡ messageOf (now (frame .entry))) × (messageTold r ≡ messageNumbers (now (frame .entry))) ⌝ }
 {
     let pdu = pdu_of(frame);
     // type 0 is never found, so what is left of this answer is the frame's reason

@@ -5,10 +5,10 @@ use Rattle.frame_message_answer.specs.declared.MessageAnswer.{MessageAns
 use Rattle.frame_message_answer.specs.declared.MessageAnswer.the-variants.{Message, PeriodCode, Bad}
 use Rattle.frame_message_answer.specs.declared.MessageTold.{MessageTold}
 
-abbrev pub numbers : ℕ → ℕ → ℕ → MessageTold
-numbers refusal drop opcode = record { refusal = refusal; drop = drop; opcode = opcode }
+abbrev pub tellMessage : ℕ → ℕ → ℕ → MessageTold
+tellMessage refusal drop opcode = record { refusal = refusal; drop = drop; opcode = opcode }
 
-unfoldable pub told : MessageAnswer → MessageTold
-told (Message opcode) = numbers 0 0 opcode
-told PeriodCode = numbers 0 7 0
-told (Bad b) = numbers (badOf b .refusal) (badOf b .drop) 0
+unfoldable pub messageTold : MessageAnswer → MessageTold
+messageTold (Message opcode) = tellMessage 0 0 opcode
+messageTold PeriodCode = tellMessage 0 7 0
+messageTold (Bad b) = tellMessage (badOf b .refusal) (badOf b .drop) 0

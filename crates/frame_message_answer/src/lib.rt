@@ -1,6 +1,6 @@
 // Which message a frame may be, or why it is none; and the same in the paper's numbers.
 ghost use mathlib.Core.Path.{_≡_};
-ghost use Rattle.frame_message_answer.specs.Told.{told};
+ghost use Rattle.frame_message_answer.specs.Told.{messageTold};
 use frame_reader_answer::Bad;
 use frame_reader_answer::TlvAnswer;
 use frame_reader_answer::tell as tell_reader;
@@ -25,7 +25,7 @@ pub struct MessageTold {
 
 // An answer in the paper's numbers.
 pub fn tell(answer: MessageAnswer) -> MessageTold
-    ensures { λ r. ⌜ r ≡ told answer ⌝ }
+    ensures { λ r. ⌜ r ≡ messageTold answer ⌝ }
 {
     match answer {
         MessageAnswer::Message(opcode) => MessageTold {

@@ -22,7 +22,18 @@ module _ (op : ℕ) (n1 : op ≡ 1 → ⊥) (n2 : op ≡ 2 → ⊥) (n3 : op ≡
   pub rule-none : ruleOf op ≡ noRule
   unfolding ruleOf choose
   rule-none =
-      rw (ne-eqb op 1 n1, ne-eqb op 2 n2, ne-eqb op 3 n3, ne-eqb op 33 n33, ne-eqb op 35 n35, ne-eqb op 42 n42, ne-eqb op 43 n43, ne-eqb op 46 n46, ne-eqb op 47 n47)
+      rw (
+        ne-eqb op 1 n1,
+        ne-eqb op 2 n2,
+        ne-eqb op 3 n3,
+        ne-eqb op 33 n33,
+        ne-eqb op 35 n35,
+        ne-eqb op 42 n42,
+        ne-eqb op 43 n43,
+        ne-eqb op
+            46 n46,
+        ne-eqb op 47 n47,
+      )
 
 -- two tests that agree
 agree : (a b : Bool) → Bool·beq a b ≡ true → a ≡ b
@@ -34,10 +45,12 @@ agree false false e = refl
 -- from 48 on nothing is listed
 pub rule-far : (op : ℕ) → 48 ≤ op → ruleOf op ≡ noRule
 rule-far op h =
-    rule-none op (λ e. omega arith) (λ e. omega arith) (λ e. omega arith) (λ e. omega arith) (λ e. omega arith) (λ e. omega arith) (λ e. omega arith) (λ e. omega arith) (λ e. omega arith)
+    rule-none op (λ e. omega arith) (λ e. omega arith) (λ e. omega arith) (λ e. omega arith) (λ e. omega arith) (λ e. omega arith)
+    (λ e. omega arith) (λ e. omega arith) (λ e. omega arith)
 
 -- a test that all rows pass: below 48 it is computed
-pub every-row : (test : Rule → Bool) → test noRule ≡ true → everyBelow (λ op. test (ruleOf op)) 48 ≡ true → (op : ℕ) → test (ruleOf op) ≡ true
+pub every-row : (test : Rule → Bool) → test noRule ≡ true → everyBelow (λ op. test (ruleOf op)) 48 ≡ true → (op : ℕ)
+    → test (ruleOf op) ≡ true
 every-row test none computed op =
     ⊎-elim
     (λ (t : ltb op 48 ≡ true). below-is (λ n. test (ruleOf n)) 48 computed op (ltb-true op 48 t))
@@ -51,12 +64,14 @@ module _ (column : Rule → Bool) (list : List ℕ) (none : column noRule ≡ fa
   far op h =
       ap column (rule-far op h)
       ∙ none
-      ∙ sym (ap not (absent-is op list .1 (λ i k e. omega (arith, ltb-true (getD list i 0) 48 (every-is (λ y. ltb y 48) list 0 .0 small i k)))))
+      ∙ sym (ap not (absent-is op list .1 (λ i k e. omega
+      (arith, ltb-true (getD list i 0) 48 (every-is (λ y. ltb y 48) list 0 .0 small i k)))))
 
   listed : (op : ℕ) → column (ruleOf op) ≡ not (absent op list)
   listed op =
       ⊎-elim
-      (λ (t : ltb op 48 ≡ true). agree _ _ (below-is (λ n. Bool·beq (column (ruleOf n)) (not (absent n list))) 48 computed op (ltb-true op 48 t)))
+      (λ (t : ltb op 48 ≡ true). agree _ _ (below-is (λ n. Bool·beq (column (ruleOf n)) (not (absent n list))) 48 computed op
+      (ltb-true op 48 t)))
       (λ (f : ltb op 48 ≡ false). far op (ltb-false op 48 f))
       (if-known (ltb op 48))
 

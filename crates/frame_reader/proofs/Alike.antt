@@ -69,12 +69,14 @@ module _ (f g : List ℕ) (a : Alike f g) where
       ∙ ap (λ (k : ℕ). part k l q) n in
       sym (part-drop 14 s l f) ∙ u ∙ part-drop 14 s l g
 
-  wanted-alike : (kind : ℕ) (w : Place) → walkFrom kind (startOf (pduOf f)) (pduOf f) ≡ w → partOf f (inFrame (wanted w)) ≡ partOf g (inFrame (wanted w))
+  wanted-alike : (kind : ℕ) (w : Place) → walkFrom kind (startOf (pduOf f)) (pduOf f) ≡ w
+      → partOf f (inFrame (wanted w)) ≡ partOf g (inFrame (wanted w))
   wanted-alike kind (Found s l) e = same-part s l (beyond kind 0 (drop (startOf (pduOf f)) (pduOf f)) (startOf (pduOf f)) s l e)
   wanted-alike kind (End at) e = refl
   wanted-alike kind (Cut at) e = refl
 
-  whole-alike : (kind : ℕ) (ending w : Place) → walkFrom kind (startOf (pduOf f)) (pduOf f) ≡ w → partOf f (inFrame (whole ending w)) ≡ partOf g (inFrame (whole ending w))
+  whole-alike : (kind : ℕ) (ending w : Place) → walkFrom kind (startOf (pduOf f)) (pduOf f) ≡ w
+      → partOf f (inFrame (whole ending w)) ≡ partOf g (inFrame (whole ending w))
   whole-alike kind (Cut at) w e = refl
   whole-alike kind (End at) w e = wanted-alike kind w e
   whole-alike kind (Found s l) w e = wanted-alike kind w e
@@ -97,9 +99,15 @@ module _ (f g : List ℕ) (a : Alike f g) where
   unfolding valueOf
   values kind =
       through (partOf f) f kind
-      ∙ chained-alike (λ b. []) _ _ (whole-alike kind (walkFrom 0 (startOf (pduOf f)) (pduOf f)) (walkFrom kind (startOf (pduOf f)) (pduOf f)) refl
+      ∙ chained-alike (λ b. []) _ _ (whole-alike kind (walkFrom 0 (startOf (pduOf f)) (pduOf f))
+      (walkFrom kind (startOf (pduOf f)) (pduOf f)) refl
       ∙ ap₂ (λ (x y : Place). partOf g (inFrame (whole x y))) (walked f g a 0) (walked f g a kind))
       ∙ sym (through (partOf g) g kind)
 
 pub read-alike : ReadAlike
-read-alike = record { answers = λ f g a kind. answers f g a kind; values = λ f g a kind. values f g a kind; places = λ f g a p kind. places f g a p kind }
+read-alike =
+    record {
+      answers = λ f g a kind. answers f g a kind;
+      values = λ f g a kind. values f g a kind;
+      places = λ f g a p kind. places f g a p kind;
+    }

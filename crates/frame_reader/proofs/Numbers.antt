@@ -21,28 +21,29 @@ use Rattle.frame_head.specs.Head.{pduOf, startOf}
 use Rattle.frame_tlvs.specs.Tlvs.{lengthOf, walk, walkFrom}
 use Rattle.frame_seek.specs.Seek.{isCut, wanted, whole, inFrame}
 use Rattle.frame_reader.specs.Reader.{answerAt, answerOf}
-use Rattle.frame_reader_answer.specs.Told.{numbers, badOf, told}
-use Rattle.frame_reader.specs.Numbers.{isFound, numbersOf, ReaderNumbers}
+use Rattle.frame_reader_answer.specs.Told.{tellTlv, badOf, tlvTold}
+use Rattle.frame_reader.specs.Numbers.{isFound, tlvNumbers, ReaderNumbers}
 use Rattle.frame_seek.proofs.Chain.{chained, through}
 
 -- what is told of a place of the PDU, in numbers
-found-told : (w : Place) → told (answerAt (inFrame (wanted w))) ≡ cond (isFound w) (numbers 0 0 1) (numbers 0 0 0)
-unfolding told
+found-told : (w : Place) → tlvTold (answerAt (inFrame (wanted w))) ≡ cond (isFound w) (tellTlv 0 0 1) (tellTlv 0 0 0)
+unfolding tlvTold
 found-told (place.Found start len) = refl
 found-told (place.End at) = refl
 found-told (place.Cut at) = refl
 
-whole-told : (ending w : Place) → told (answerAt (inFrame (whole ending w))) ≡ cond (isCut ending) (numbers 0 5 0) (cond (isFound w) (numbers 0 0 1) (numbers 0 0 0))
-unfolding told badOf
+whole-told : (ending w : Place) → tlvTold (answerAt (inFrame (whole ending w))) ≡ cond (isCut ending) (tellTlv 0 5 0)
+    (cond (isFound w) (tellTlv 0 0 1) (tellTlv 0 0 0))
+unfolding tlvTold badOf
 whole-told (place.Cut at) w = refl
 whole-told (place.End at) w = found-told w
 whole-told (place.Found start len) w = found-told w
 
-pub agree : (f : List ℕ) (kind : ℕ) → told (answerOf f kind) ≡ numbersOf f kind
-unfolding answerOf numbersOf chained choose told badOf
+pub agree : (f : List ℕ) (kind : ℕ) → tlvTold (answerOf f kind) ≡ tlvNumbers f kind
+unfolding answerOf tlvNumbers chained choose tlvTold badOf
 agree f kind =
     let p = pduOf f in
-    let tell : Seek → TlvTold = λ s. told (answerAt s) in
+    let tell : Seek → TlvTold = λ s. tlvTold (answerAt s) in
     through tell f kind
     ∙ ap (λ (t : TlvTold). chained (λ b. tell (seek.Bad b)) f t) (whole-told (walkFrom 0 (startOf p) p) (walkFrom kind (startOf p) p))
 
@@ -59,8 +60,8 @@ back t =
     ∷ [])
     answer.NoSuch
 
-back-told : (a : TlvAnswer) → back (told a) ≡ a
-unfolding back choose told badOf
+back-told : (a : TlvAnswer) → back (tlvTold a) ≡ a
+unfolding back choose tlvTold badOf
 back-told answer.Value = refl
 back-told answer.NoSuch = refl
 back-told (answer.Bad Length) = refl
@@ -69,8 +70,8 @@ back-told (answer.Bad Opcode) = refl
 back-told (answer.Bad Offset) = refl
 back-told (answer.Bad CutOff) = refl
 
-bare : (b : Bad) → told (answer.Bad b) .value ≡ 0
-unfolding told badOf
+bare : (b : Bad) → tlvTold (answer.Bad b) .value ≡ 0
+unfolding tlvTold badOf
 bare Length = refl
 bare Short = refl
 bare Opcode = refl
@@ -95,7 +96,8 @@ not-found zero (t ∷ xs) at =
     (known (eqb t 0))
 
 -- so no number of the chain tells a value
-no-value : (a b c d e g : Bool) → choose ((a, numbers 1 0 0) ∷ (b, numbers 0 3 0) ∷ (c, numbers 0 1 0) ∷ (d, numbers 0 3 0) ∷ (e, numbers 0 4 0) ∷ (g, numbers 0 5 0) ∷ (false, numbers 0 0 1) ∷ []) (numbers 0 0 0) .value ≡ 0
+no-value : (a b c d e g : Bool) → choose ((a, tellTlv 1 0 0) ∷ (b, tellTlv 0 3 0) ∷ (c, tellTlv 0 1 0) ∷ (d, tellTlv 0 3 0)
+    ∷ (e, tellTlv 0 4 0) ∷ (g, tellTlv 0 5 0) ∷ (false, tellTlv 0 0 1) ∷ []) (tellTlv 0 0 0) .value ≡ 0
 unfolding choose
 no-value true b c d e g = refl
 no-value false true c d e g = refl
@@ -105,8 +107,8 @@ no-value false false false false true g = refl
 no-value false false false false false true = refl
 no-value false false false false false false = refl
 
-never : (f : List ℕ) → told (answerOf f 0) .value ≡ 0
-unfolding numbersOf
+never : (f : List ℕ) → tlvTold (answerOf f 0) .value ≡ 0
+unfolding tlvNumbers
 never f =
     let p = pduOf f in
     ap (λ (t : TlvTold). t .value) (agree f 0)

@@ -17,7 +17,7 @@ use Rattle.frame_head.specs.Head.{isOam, lengthGood, pduOf, opcodeOf, offsetOf,
 use Rattle.frame_tlvs.specs.Tlvs.{walkFrom}
 use Rattle.frame_seek.specs.Seek.{isCut}
 use Rattle.frame_reader.specs.Reader.{answerOf}
-use Rattle.frame_reader_answer.specs.Told.{numbers, told}
+use Rattle.frame_reader_answer.specs.Told.{tellTlv, tlvTold}
 
 abbrev pub isFound : Place → Bool
 isFound (place.Found start len) = true
@@ -25,26 +25,26 @@ isFound (place.End at) = false
 isFound (place.Cut at) = false
 
 -- in the paper's order: 1, D3 for a service frame, D1, D3, D4, D5, then a value or none
-unfoldable pub numbersOf : List ℕ → ℕ → TlvTold
-numbersOf f kind =
+unfoldable pub tlvNumbers : List ℕ → ℕ → TlvTold
+tlvNumbers f kind =
     choose (
-    (not (lengthGood f), numbers 1 0 0)
-    ∷ (not (isOam f), numbers 0 3 0)
-    ∷ (ltb (length (pduOf f)) 4, numbers 0 1 0)
-    ∷ (not (ruleOf (opcodeOf (pduOf f)) .known), numbers 0 3 0)
-    ∷ (ltb (offsetOf (pduOf f)) (ruleOf (opcodeOf (pduOf f)) .least), numbers 0 4 0)
-    ∷ (isCut (walkFrom 0 (startOf (pduOf f)) (pduOf f)), numbers 0 5 0)
-    ∷ (isFound (walkFrom kind (startOf (pduOf f)) (pduOf f)), numbers 0 0 1)
+    (not (lengthGood f), tellTlv 1 0 0)
+    ∷ (not (isOam f), tellTlv 0 3 0)
+    ∷ (ltb (length (pduOf f)) 4, tellTlv 0 1 0)
+    ∷ (not (ruleOf (opcodeOf (pduOf f)) .known), tellTlv 0 3 0)
+    ∷ (ltb (offsetOf (pduOf f)) (ruleOf (opcodeOf (pduOf f)) .least), tellTlv 0 4 0)
+    ∷ (isCut (walkFrom 0 (startOf (pduOf f)) (pduOf f)), tellTlv 0 5 0)
+    ∷ (isFound (walkFrom kind (startOf (pduOf f)) (pduOf f)), tellTlv 0 0 1)
     ∷ [])
-    (numbers 0 0 0)
+    (tellTlv 0 0 0)
 
 -- what is said of every frame, and of every answer
 pub record ReaderNumbers : Type 0 where
   -- the staged search tells the numbers of the one chain
-  pub agree : (f : List ℕ) (kind : ℕ) → told (answerOf f kind) ≡ numbersOf f kind
+  pub agree : (f : List ℕ) (kind : ℕ) → tlvTold (answerOf f kind) ≡ tlvNumbers f kind
   -- no two answers are told alike
-  pub apart : (a b : TlvAnswer) → told a ≡ told b → a ≡ b
+  pub apart : (a b : TlvAnswer) → tlvTold a ≡ tlvTold b → a ≡ b
   -- type 0 is never a value
-  pub never : (f : List ℕ) → told (answerOf f 0) .value ≡ 0
+  pub never : (f : List ℕ) → tlvTold (answerOf f 0) .value ≡ 0
   -- beside a refusal or a drop no value is told
-  pub bare : (b : Bad) → told (answer.Bad b) .value ≡ 0
+  pub bare : (b : Bad) → tlvTold (answer.Bad b) .value ≡ 0

@@ -2,9 +2,9 @@
 // Nothing here knows of settings or state, and no function asks anything of its caller.
 ghost use mathlib.Core.Path.{_≡_};
 ghost use denote.Ref.{ptr};
-ghost use Rattle.frame_reader_answer.specs.Told.{told};
+ghost use Rattle.frame_reader_answer.specs.Told.{tlvTold};
 ghost use Rattle.frame_reader.specs.Reader.{valueOf, placeOf, answerOf};
-ghost use Rattle.frame_reader.specs.Numbers.{numbersOf};
+ghost use Rattle.frame_reader.specs.Numbers.{tlvNumbers};
 use frame_reader_answer::TlvAnswer;
 use frame_seek::Seek;
 use frame_seek::seek_frame;
@@ -23,7 +23,7 @@ pub fn tlv_value(frame: &[u8], kind: u8) -> &[u8]
 
 // Tells a value, even an empty one, from no such TLV and from a bad frame.
 pub fn tlv_answer(frame: &[u8], kind: u8) -> TlvAnswer
-    ensures { λ r. ⌜ (r ≡ answerOf (now (frame .entry)) kind) × (told r ≡ numbersOf (now (frame .entry)) kind) ⌝ }
+    ensures { λ r. ⌜ (r ≡ answerOf (now (frame .entry)) kind) × (tlvTold r ≡ tlvNumbers (now (frame .entry)) kind) ⌝ }
 {
     match seek_frame(frame, kind) {
         Seek::Value { start: _, len: _ } => TlvAnswer::Value,

@@ -6,17 +6,17 @@ use Rattle.frame_reader_answer.specs.declared.TlvAnswer.{TlvAnswer}
 use Rattle.frame_reader_answer.specs.declared.TlvAnswer.the-variants as answer
 use Rattle.frame_reader_answer.specs.declared.TlvTold.{TlvTold}
 
-abbrev pub numbers : ℕ → ℕ → ℕ → TlvTold
-numbers refusal drop value = record { refusal = refusal; drop = drop; value = value }
+abbrev pub tellTlv : ℕ → ℕ → ℕ → TlvTold
+tellTlv refusal drop value = record { refusal = refusal; drop = drop; value = value }
 
 unfoldable pub badOf : Bad → TlvTold
-badOf Length = numbers 1 0 0
-badOf Short = numbers 0 1 0
-badOf Opcode = numbers 0 3 0
-badOf Offset = numbers 0 4 0
-badOf CutOff = numbers 0 5 0
+badOf Length = tellTlv 1 0 0
+badOf Short = tellTlv 0 1 0
+badOf Opcode = tellTlv 0 3 0
+badOf Offset = tellTlv 0 4 0
+badOf CutOff = tellTlv 0 5 0
 
-unfoldable pub told : TlvAnswer → TlvTold
-told answer.Value = numbers 0 0 1
-told answer.NoSuch = numbers 0 0 0
-told (answer.Bad b) = badOf b
+unfoldable pub tlvTold : TlvAnswer → TlvTold
+tlvTold answer.Value = tellTlv 0 0 1
+tlvTold answer.NoSuch = tellTlv 0 0 0
+tlvTold (answer.Bad b) = badOf b

@@ -1,6 +1,6 @@
 // What the reader answers, and why it cannot read a frame; both in the paper's numbers.
 ghost use mathlib.Core.Path.{_≡_};
-ghost use Rattle.frame_reader_answer.specs.Told.{badOf, told};
+ghost use Rattle.frame_reader_answer.specs.Told.{badOf, tlvTold};
 
 // Why a frame cannot be read.
 pub enum Bad {
@@ -66,7 +66,7 @@ fn tell_bad(b: Bad) -> TlvTold
 
 // An answer in the paper's numbers.
 pub fn tell(a: TlvAnswer) -> TlvTold
-    ensures { λ r. ⌜ r ≡ told a ⌝ }
+    ensures { λ r. ⌜ r ≡ tlvTold a ⌝ }
 {
     match a {
         TlvAnswer::Value => TlvTold {

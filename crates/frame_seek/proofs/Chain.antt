@@ -32,7 +32,8 @@ chained bad f last =
 
 -- anything told of a search is told of the chain's reasons and of its last word
 pub through : {A : Type 0} (t : Seek → A) (f : List ℕ) (kind : ℕ)
-    → t (seekOf f kind) ≡ chained (λ b. t (seek.Bad b)) f (t (inFrame (whole (walkFrom 0 (startOf (pduOf f)) (pduOf f)) (walkFrom kind (startOf (pduOf f)) (pduOf f)))))
+    → t (seekOf f kind) ≡ chained (λ b. t (seek.Bad b)) f
+    (t (inFrame (whole (walkFrom 0 (startOf (pduOf f)) (pduOf f)) (walkFrom kind (startOf (pduOf f)) (pduOf f)))))
 unfolding seekOf judge judgePdu chained choose
 through {A} t f kind =
     let p = pduOf f in

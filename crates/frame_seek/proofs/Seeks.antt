@@ -1,6 +1,6 @@
 -- What a search for a TLV finds, case by case. Assumes nothing.
-use Prim.Native.Nat.{ℕ, _+_, _-_, _≤_, _<_}
-use mathlib.Core.Path.{_≡_, sym, ap, _∙_}
+use Prim.Native.Nat.{ℕ, _-_, _≤_}
+use mathlib.Core.Path.{_≡_, ap}
 use mathlib.Core.Bool.{true, false}
 use mathlib.Core.List.{List}
 use mathlib.Core.Logic.{⊎-elim}
@@ -33,7 +33,8 @@ module _ (f : List ℕ) (kind : ℕ) where
   unfolding seekOf
   seek-bad b e = ap (λ (h : Head). inFrame (seekAt kind (pduOf f) h)) e
 
-  pub seek-tlvs : (start : ℕ) → judge f ≡ head.Tlvs start → seekOf f kind ≡ inFrame (whole (walkFrom 0 start (pduOf f)) (walkFrom kind start (pduOf f)))
+  pub seek-tlvs : (start : ℕ) → judge f ≡ head.Tlvs start
+      → seekOf f kind ≡ inFrame (whole (walkFrom 0 start (pduOf f)) (walkFrom kind start (pduOf f)))
   unfolding seekOf
   seek-tlvs start e = ap (λ (h : Head). inFrame (seekAt kind (pduOf f) h)) e
 

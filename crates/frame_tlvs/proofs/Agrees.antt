@@ -33,7 +33,8 @@ module _ (p : List ℕ) (octets : Octets p) where
   -- a TLV that is all there, as the grammar has it
   shape : (at : ℕ) → at + 3 + lengthAt at p ≤ length p
       → (length (part (at + 3) (lengthAt at p) p) < 65536)
-      × (drop at p ≡ getD p at 0 ∷ (inOctets bigEndian 2 (length (part (at + 3) (lengthAt at p) p)) ++ part (at + 3) (lengthAt at p) p ++ drop (at + 3 + lengthAt at p) p))
+      × (drop at p ≡ getD p at 0 ∷ (inOctets bigEndian 2 (length (part (at + 3) (lengthAt at p) p)) ++ part (at + 3)
+      (lengthAt at p) p ++ drop (at + 3 + lengthAt at p) p))
   shape at h =
       let n = lengthAt at p in
       let v = part (at + 3) n p in
@@ -48,8 +49,11 @@ module _ (p : List ℕ) (octets : Octets p) where
       ∙ ap (λ (k : ℕ). part (at + 1) 2 p ++ drop k p) e
       ∙ ap (λ (l : List ℕ). part (at + 1) 2 p ++ l) (drop-part (at + 3) n p)
       ∙ sym (append-assoc (part (at + 1) 2 p) v (drop (at + 3 + n) p))
-      ∙ ap (λ (l : List ℕ). l ++ v ++ drop (at + 3 + n) p) size in
-      (omega arith, drop-cons p at 0 (omega arith) ∙ ap (λ (k : ℕ). getD p at 0 ∷ drop k p) (sym (add-one at)) ∙ ap (λ (l : List ℕ). getD p at 0 ∷ l) behind)
+      ∙ ap (λ (l : List ℕ). l ++ v ++ drop (at + 3 + n) p) size in (
+        omega arith,
+        drop-cons p at 0 (omega arith) ∙ ap (λ (k : ℕ). getD p at 0 ∷ drop k p) (sym (add-one at))
+            ∙ ap (λ (l : List ℕ). getD p at 0 ∷ l) behind,
+      )
 
   -- `left` bounds how far the walk can still go
   from : (left at e : ℕ) → length p ≤ at + left → walkFrom 0 at p ≡ End e → (ts : List (ℕ × List ℕ)) × Tlvs (drop at p) ts
@@ -60,7 +64,8 @@ module _ (p : List ℕ) (octets : Octets p) where
       let i : at < length p = ltb-true at (length p) t in
       ⊎-elim
       (λ (z : eqb (getD p at 0) 0 ≡ true).
-      let d : 0 ∷ drop (suc at) p ≡ drop at p = ap (λ (k : ℕ). k ∷ drop (suc at) p) (sym (eqb-true (getD p at 0) 0 z)) ∙ sym (drop-cons p at 0 i) in
+      let d : 0 ∷ drop (suc at) p ≡ drop at p = ap (λ (k : ℕ). k ∷ drop (suc at) p) (sym (eqb-true (getD p at 0) 0 z))
+      ∙ sym (drop-cons p at 0 i) in
       ([], subst (λ (xs : List ℕ). Tlvs xs []) d end))
       (λ (z : eqb (getD p at 0) 0 ≡ false).
       let nz : getD p at 0 ≡ 0 → ⊥ = eqb-false (getD p at 0) 0 z in

@@ -43,7 +43,8 @@ module _ (kind at : ℕ) (p : List ℕ) (inside : at < length p) where
   unfolding walk
   here =
       let e : lengthOf (drop (suc at) p) ≡ lengthAt at p =
-      ap (number bigEndian) (ap (λ (k : ℕ). part 0 2 (drop k p)) (sym (add-one at)) ∙ part-drop (at + 1) 0 2 p ∙ ap (λ (k : ℕ). part k 2 p) (add-zero (at + 1))) in
+      ap (number bigEndian) (ap (λ (k : ℕ). part 0 2 (drop k p)) (sym (add-one at)) ∙ part-drop (at + 1) 0 2 p
+      ∙ ap (λ (k : ℕ). part k 2 p) (add-zero (at + 1))) in
       ap (λ (l : List ℕ). walk kind 0 l at) (drop-cons p at 0 inside)
       ∙ ap (λ (n : ℕ). cond (eqb (getD p at 0) 0) (End at)
       (cond (ltb (length (drop (suc at) p)) (2 + n)) (Cut at)

@@ -30,11 +30,14 @@ inside p at t xs h =
     omega arith
 
 -- where the octets from `at` on are a TLV and then others
-module _ (p : List ℕ) (at t : ℕ) (v rest : List ℕ) (small : length v < 65536) (h : drop at p ≡ t ∷ (inOctets bigEndian 2 (length v) ++ v ++ rest)) where
+module _ (p : List ℕ) (at t : ℕ) (v rest : List ℕ) (small : length v < 65536)
+    (h : drop at p ≡ t ∷ (inOctets bigEndian 2 (length v) ++ v ++ rest)) where
   fits : at + 3 + length v ≤ length p
   fits =
       let e : length p - at ≡ suc (length (inOctets bigEndian 2 (length v)) + length v + length rest) =
-      sym (length-drop at p) ∙ ap length h ∙ ap suc (length-append (inOctets bigEndian 2 (length v) ++ v) rest ∙ ap (λ (n : ℕ). n + length rest) (length-append (inOctets bigEndian 2 (length v)) v)) in
+      sym (length-drop at p) ∙ ap length h ∙ ap suc
+      (length-append (inOctets bigEndian 2 (length v) ++ v) rest
+      ∙ ap (λ (n : ℕ). n + length rest) (length-append (inOctets bigEndian 2 (length v)) v)) in
       omega (arith, length-octets bigEndian 2 (length v))
 
   behind : drop (at + 1) p ≡ inOctets bigEndian 2 (length v) ++ (v ++ rest)
@@ -82,7 +85,8 @@ finds kind (one {t} {v} {rest} {ts} nz small d) p at h =
     ∙ sym (rw e))
     (known (eqb t kind))
 
-pub ends : {xs : List ℕ} {ts : List (ℕ × List ℕ)} → Tlvs xs ts → (p : List ℕ) (at : ℕ) → drop at p ≡ xs → (e : ℕ) × (walkFrom 0 at p ≡ End e)
+pub ends : {xs : List ℕ} {ts : List (ℕ × List ℕ)} → Tlvs xs ts → (p : List ℕ) (at : ℕ) → drop at p ≡ xs → (e : ℕ)
+    × (walkFrom 0 at p ≡ End e)
 ends (end {padding}) p at h = (at, ended 0 at p (inside p at 0 padding h) (type-is p at 0 padding h))
 ends (one {t} {v} {rest} {ts} nz small d) p at h =
     let f = fits p at t v rest small h in

@@ -8,7 +8,7 @@ use Rattle.frame_reader_answer.specs.Told.{badOf}
 use Rattle.frame_value.specs.declared.ValueAnswer.{ValueAnswer}
 use Rattle.frame_value.specs.declared.ValueAnswer.the-variants.{Holds, Differs, NoSuch, Bad}
 use Rattle.frame_value.specs.declared.ValueTold.{ValueTold}
-use Rattle.frame_value.specs.Told.{told, ValueNumbers}
+use Rattle.frame_value.specs.Told.{valueTold, ValueNumbers}
 
 -- the answer that is meant by its numbers
 back : ValueTold → ValueAnswer
@@ -24,8 +24,8 @@ back t =
     ∷ [])
     NoSuch
 
-back-told : (a : ValueAnswer) → back (told a) ≡ a
-unfolding back choose told badOf
+back-told : (a : ValueAnswer) → back (valueTold a) ≡ a
+unfolding back choose valueTold badOf
 back-told Holds = refl
 back-told Differs = refl
 back-told NoSuch = refl

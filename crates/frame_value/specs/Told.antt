@@ -6,16 +6,16 @@ use Rattle.frame_value.specs.declared.ValueAnswer.{ValueAnswer}
 use Rattle.frame_value.specs.declared.ValueAnswer.the-variants.{Holds, Differs, NoSuch, Bad}
 use Rattle.frame_value.specs.declared.ValueTold.{ValueTold}
 
-abbrev pub numbers : ℕ → ℕ → ℕ → ℕ → ValueTold
-numbers refusal drop value holds = record { refusal = refusal; drop = drop; value = value; holds = holds }
+abbrev pub tellValue : ℕ → ℕ → ℕ → ℕ → ValueTold
+tellValue refusal drop value holds = record { refusal = refusal; drop = drop; value = value; holds = holds }
 
-unfoldable pub told : ValueAnswer → ValueTold
-told Holds = numbers 0 0 1 1
-told Differs = numbers 0 0 1 0
-told NoSuch = numbers 0 0 0 0
-told (Bad b) = numbers (badOf b .refusal) (badOf b .drop) 0 0
+unfoldable pub valueTold : ValueAnswer → ValueTold
+valueTold Holds = tellValue 0 0 1 1
+valueTold Differs = tellValue 0 0 1 0
+valueTold NoSuch = tellValue 0 0 0 0
+valueTold (Bad b) = tellValue (badOf b .refusal) (badOf b .drop) 0 0
 
 -- what is said of every answer
 pub record ValueNumbers : Type 0 where
   -- no two are told alike
-  pub apart : (a b : ValueAnswer) → told a ≡ told b → a ≡ b
+  pub apart : (a b : ValueAnswer) → valueTold a ≡ valueTold b → a ≡ b

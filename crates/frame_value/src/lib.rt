@@ -1,7 +1,7 @@
 // What the value of a TLV holds: the octets of a data TLV, the zeros of a test TLV; the answer on it, and the same in the paper's numbers.
 // The value is the part of the frame that the reader hands back; nothing is copied.
 ghost use mathlib.Core.Path.{_≡_};
-ghost use Rattle.frame_value.specs.Told.{told};
+ghost use Rattle.frame_value.specs.Told.{valueTold};
 ghost use Rattle.frame_value.specs.Values.{zeroPattern, outcomeOf, sameData, zeroTest};
 ghost use Rattle.frame_value.specs.Numbers.{sameNumbers, zeroNumbers};
 use base_compare::same_octets;
@@ -34,7 +34,7 @@ pub struct ValueTold {
 
 // An answer in the paper's numbers.
 pub fn tell(answer: ValueAnswer) -> ValueTold
-    ensures { λ r. ⌜ r ≡ told answer ⌝ }
+    ensures { λ r. ⌜ r ≡ valueTold answer ⌝ }
 {
     match answer {
         ValueAnswer::Holds => ValueTold {
@@ -101,7 +101,7 @@ fn outcome(answer: TlvAnswer, holds: bool) -> ValueAnswer
 // Tells whether the value of the frame's data TLV is these octets.
 pub fn same_data(frame: &[u8], octets: &[u8]) -> ValueAnswer
     ensures { λ r. ⌜ (r ≡ sameData (now (frame .entry)) (now (octets .entry)))
-        × (told r ≡ sameNumbers (now (frame .entry)) (now (octets .entry))) ⌝ }
+        × (valueTold r ≡ sameNumbers (now (frame .entry)) (now (octets .entry))) ⌝ }
 {
     let same = same_octets(tlv_value(frame, 3), octets);
     outcome(tlv_answer(frame, 3), same)
@@ -109,7 +109,7 @@ pub fn same_data(frame: &[u8], octets: &[u8]) -> ValueAnswer
 
 // Tells whether the frame's test TLV holds pattern type 0 and zeros only.
 pub fn all_zero_test(frame: &[u8]) -> ValueAnswer
-    ensures { λ r. ⌜ (r ≡ zeroTest (now (frame .entry))) × (told r ≡ zeroNumbers (now (frame .entry))) ⌝ }
+    ensures { λ r. ⌜ (r ≡ zeroTest (now (frame .entry))) × (valueTold r ≡ zeroNumbers (now (frame .entry))) ⌝ }
 {
     let zeros = zero_pattern(tlv_value(frame, 32));
     outcome(tlv_answer(frame, 32), zeros)

@@ -7,7 +7,7 @@ ghost use Rattle.base_laws.specs.Ended.{ended, toldBy};
 ghost use Rattle.state_view.specs.State.{before, after};
 ghost use Rattle.state_places.specs.Stored.{Whole};
 ghost use Rattle.base_stamp.specs.Stamps.{Wire};
-ghost use Rattle.receive_answer.specs.Told.{told};
+ghost use Rattle.receive_answer.specs.Told.{frameTold};
 ghost use Rattle.receive_frame.specs.Frame.{frameOf};
 ghost use Rattle.linkbox_frame.specs.Sides.{sideOf};
 use base_stamp::Stamp;
@@ -46,7 +46,7 @@ pub extern "C" fn linkbox_frame(
     transmit: Stamp,
     out: &mut [u8],
 ) -> FrameTold
-    ensures { λ r. ⌜ ended r (after set names ids timers rdi run totals) (now (out .exit)) ≡ toldBy told
+    ensures { λ r. ⌜ ended r (after set names ids timers rdi run totals) (now (out .exit)) ≡ toldBy frameTold
         (frameOf (before set names ids timers rdi run totals) (sideOf side) (now (frame .entry)) receive transmit (now (out .entry))) ⌝ }
     ensures { λ _. ⌜ Whole (now (run .exit)) (now (totals .exit)) ⌝ }
     ensures { λ _. ⌜ Wire receive × Wire transmit ⌝ }

@@ -1,7 +1,7 @@
 -- A TLV told in numbers: those of the reader's answer, and where in the frame the value stands and how long it is, 0 and 0 where there is none.
 -- Definitions only.
 use Prim.Native.Nat.{ℕ}
-use Rattle.frame_reader_answer.specs.Told.{told}
+use Rattle.frame_reader_answer.specs.Told.{tlvTold}
 use Rattle.frame_seek.specs.declared.Seek.{Seek}
 use Rattle.frame_seek.specs.declared.Seek.the-variants as seek
 use Rattle.frame_reader.specs.Reader.{answerAt}
@@ -14,4 +14,4 @@ foundAt seek.NoSuch = (0, 0)
 foundAt (seek.Bad b) = (0, 0)
 
 abbrev pub tlvAt : Seek → TlvAt
-tlvAt s = record { refusal = told (answerAt s) .refusal; drop = told (answerAt s) .drop; value = told (answerAt s) .value; start = foundAt s .0; length = foundAt s .1 }
+tlvAt s = record { refusal = tlvTold (answerAt s) .refusal; drop = tlvTold (answerAt s) .drop; value = tlvTold (answerAt s) .value; start = foundAt s .0; length = foundAt s .1 }

@@ -2,7 +2,7 @@
 // It is for firmware in C or Rust; linkbox.h declares it. It calls the function of its room and tells its answer.
 // Any content of the memory is a value. What a caller sees to is that the pointer is to memory of this size.
 ghost use mathlib.Core.Path.{_≡_};
-ghost use Rattle.frame_reader_answer.specs.Told.{told as tlvTold};
+ghost use Rattle.frame_reader_answer.specs.Told.{tlvTold};
 ghost use Rattle.frame_seek.specs.Seek.{seekOf};
 ghost use Rattle.linkbox_reader.specs.Tlvs.{tlvAt};
 use frame_reader_answer::TlvAnswer;

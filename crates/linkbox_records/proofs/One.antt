@@ -8,7 +8,8 @@ use Rattle.linkbox_records.proofs.linkbox_write_settings.Reads as write
 use Rattle.linkbox_records.proofs.linkbox_read_line.Reads as read-line
 use Rattle.linkbox_records.proofs.linkbox_write_line.Reads as write-line
 
-pub linkbox-read-settings-one : (κs : _) (a : _) (r r′ : _) (s s′ : _) → read-settings.Post κs a r s → read-settings.Post κs a r′ s′ → r ≡ r′
+pub linkbox-read-settings-one : (κs : _) (a : _) (r r′ : _) (s s′ : _) → read-settings.Post κs a r s → read-settings.Post κs a r′ s′
+    → r ≡ r′
 linkbox-read-settings-one κs a r r′ s s′ p q = p ∙ sym q
 
 pub linkbox-write-settings-one : (κs : _) (a : _) (r r′ : _) (s s′ : _) → write-settings.Post κs a r s → write-settings.Post κs a r′ s′

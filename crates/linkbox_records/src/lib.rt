@@ -5,9 +5,9 @@
 ghost use mathlib.Core.Path.{_≡_};
 ghost use Rattle.base_laws.specs.Ended.{wrote, toldBy};
 ghost use Rattle.state_settings.specs.Settings.{slots, lentSettings, Shaped};
-ghost use Rattle.stored_record.specs.Writing.{told};
+ghost use Rattle.stored_record.specs.Writing.{recordTold};
 ghost use Rattle.stored_settings.specs.SettingsRecord.{readSettings, writeSettings};
-ghost use Rattle.stored_line.specs.Calls.{writeLine, numbersOf as readNumbers};
+ghost use Rattle.stored_line.specs.LineCalls.{writeLine, lineNumbers};
 use state_settings::Names;
 use state_settings::Set;
 use state_settings::Slots;
@@ -33,7 +33,7 @@ pub extern "C" fn linkbox_write_settings(
     ids: &Slots,
 ) -> RecordTold
     ensures { λ r. ⌜ wrote r (now (into .exit)) ≡
-        toldBy told (writeSettings (lentSettings set names ids) (now (into .entry))) ⌝ }
+        toldBy recordTold (writeSettings (lentSettings set names ids) (now (into .entry))) ⌝ }
     ensures { λ _. ⌜ Shaped slots (lentSettings set names ids) ⌝ }
 {
     let answer = stored_settings::write_settings(into, set, names, ids);
@@ -43,7 +43,7 @@ pub extern "C" fn linkbox_write_settings(
 // The loss line of a stored record, or refusal 7 and zeros.
 #[no_mangle]
 pub extern "C" fn linkbox_read_line(from: &[u8]) -> LineTold
-    ensures { λ r. ⌜ r ≡ readNumbers (now (from .entry)) ⌝ }
+    ensures { λ r. ⌜ r ≡ lineNumbers (now (from .entry)) ⌝ }
 {
     let answer = stored_line_calls::read_line(from);
     stored_line::tell(answer)
@@ -52,7 +52,7 @@ pub extern "C" fn linkbox_read_line(from: &[u8]) -> LineTold
 // Writes a loss line as a record into the front of the buffer.
 #[no_mangle]
 pub extern "C" fn linkbox_write_line(into: &mut [u8], line: LossLine) -> RecordTold
-    ensures { λ r. ⌜ wrote r (now (into .exit)) ≡ toldBy told (writeLine line (now (into .entry))) ⌝ }
+    ensures { λ r. ⌜ wrote r (now (into .exit)) ≡ toldBy recordTold (writeLine line (now (into .entry))) ⌝ }
 {
     let answer = stored_line_calls::write_line(into, line);
     stored_record::tell(answer)

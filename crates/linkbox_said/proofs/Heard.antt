@@ -27,7 +27,7 @@ use Rattle.stored_record.specs.declared.RecordAnswer.the-variants as stored
 use Rattle.stored_record.specs.Writing as Writing
 use Rattle.stored_line.specs.declared.LineAnswer.{LineAnswer}
 use Rattle.stored_line.specs.declared.LineAnswer.the-variants as line
-use Rattle.stored_line.specs.Calls as Line
+use Rattle.stored_line.specs.LineCalls as Line
 use Rattle.frame_seek.specs.declared.Seek.{Seek}
 use Rattle.frame_seek.specs.declared.Seek.the-variants as seek
 use Rattle.frame_reader_answer.specs.declared.Bad.{Bad}
@@ -40,18 +40,18 @@ use Rattle.paper_beside.specs.Records.{writeTells, lineTells}
 use Rattle.paper_beside.specs.Reader.{readerTells}
 use Rattle.linkbox_said.specs.Heard.{plainSays, frameSays, tickSays, sendSays, writeSays, lineSays, tlvSays}
 
-pub setting-says : (x : SettingAnswer) → plainSays (Setting.told x .refusal) ≡ settingAnswer x
-unfolding Setting.told
+pub setting-says : (x : SettingAnswer) → plainSays (Setting.settingTold x .refusal) ≡ settingAnswer x
+unfolding Setting.settingTold
 setting-says setting.Invalid = refl
 setting-says setting.Set = refl
 
-pub clear-says : (x : ClearAnswer) → plainSays (Clear.told x .refusal) ≡ clearAnswer x
-unfolding Clear.told
+pub clear-says : (x : ClearAnswer) → plainSays (Clear.clearTold x .refusal) ≡ clearAnswer x
+unfolding Clear.clearTold
 clear-says cleared.NotWellFormed = refl
 clear-says cleared.Cleared = refl
 
-drop-says : (d : Drop) → frameSays (Frame.told (answer.Dropped d)) ≡ frameAnswer (answer.Dropped d)
-unfolding Frame.told Frame.dropOf choose
+drop-says : (d : Drop) → frameSays (Frame.frameTold (answer.Dropped d)) ≡ frameAnswer (answer.Dropped d)
+unfolding Frame.frameTold Frame.dropOf choose
 drop-says drop.Short = refl
 drop-says drop.Level = refl
 drop-says drop.Opcode = refl
@@ -61,8 +61,8 @@ drop-says drop.Destination = refl
 drop-says drop.Value = refl
 drop-says drop.TooLarge = refl
 
-pub frame-says : (x : FrameAnswer) → frameSays (Frame.told x) ≡ frameAnswer x
-unfolding Frame.told choose
+pub frame-says : (x : FrameAnswer) → frameSays (Frame.frameTold x) ≡ frameAnswer x
+unfolding Frame.frameTold choose
 frame-says answer.NotWellFormed = refl
 frame-says answer.BadLength = refl
 frame-says answer.BadStamp = refl
@@ -95,19 +95,19 @@ dmm-says dmm.BadStamp = refl
 dmm-says dmm.NoRoom = refl
 dmm-says (dmm.Sent n) = refl
 
-pub write-says : (x : RecordAnswer) → writeSays (Writing.told x) ≡ writeTells x
-unfolding Writing.told
+pub write-says : (x : RecordAnswer) → writeSays (Writing.recordTold x) ≡ writeTells x
+unfolding Writing.recordTold
 write-says stored.BreaksRule = refl
 write-says stored.NoRoom = refl
 write-says (stored.Octets n) = refl
 
-pub line-says : (x : LineAnswer) → lineSays (Line.told x) ≡ lineTells x
-unfolding Line.told
+pub line-says : (x : LineAnswer) → lineSays (Line.lineTold x) ≡ lineTells x
+unfolding Line.lineTold
 line-says line.Refused = refl
 line-says (line.Line l) = refl
 
 bad-says : (f : List ℕ) (b : Bad) → tlvSays (tlvAt (seek.Bad b)) f ≡ readerTells (answerAt (seek.Bad b)) (partOf f (seek.Bad b))
-unfolding Reasons.told Reasons.badOf choose
+unfolding Reasons.tlvTold Reasons.badOf choose
 bad-says f bad.Length = refl
 bad-says f bad.Short = refl
 bad-says f bad.Opcode = refl
@@ -115,7 +115,7 @@ bad-says f bad.Offset = refl
 bad-says f bad.CutOff = refl
 
 pub tlv-says : (f : List ℕ) (s : Seek) → tlvSays (tlvAt s) f ≡ readerTells (answerAt s) (partOf f s)
-unfolding Reasons.told choose
+unfolding Reasons.tlvTold choose
 tlv-says f (seek.Value start len) = refl
 tlv-says f seek.NoSuch = refl
 tlv-says f (seek.Bad b) = bad-says f b

@@ -9,7 +9,7 @@ use lib.Dec.{eqb}
 use borrow.Author.Tests.{eqb-true}
 use Rattle.base_laws.specs.Ended.{Ended, ended, toldBy}
 use Rattle.base_laws.proofs.Ended.{answer-is, state-is, buffer-is}
-use Rattle.receive_answer.specs.Told.{told}
+use Rattle.receive_answer.specs.Told.{frameTold}
 use Rattle.base_laws.proofs.Tests.{known}
 use denote.Ref.{now}
 use Rattle.state_settings.specs.Settings.{Settings, settingsOf}
@@ -21,13 +21,12 @@ use Rattle.receive_class.specs.declared.Side.{Side}
 use Rattle.receive_class.specs.declared.Side.the-variants as side
 use Rattle.call_conditions.specs.declared.ConditionsTold.{ConditionsTold}
 use Rattle.call_conditions.specs.Conditions.{noConditions, conditionsOf}
-use Rattle.call_setting.specs.Start.{afterSetting, answerOf, numbersOf as numbers}
+use Rattle.call_setting.specs.Start.{afterSetting, answerOf, settingNumbers}
 use Rattle.call_setting.proofs.Starts.{starts}
 use Rattle.call_setting.specs.declared.SettingTold.{SettingTold}
 use Rattle.call_setting.specs.Told as Setting
 use Rattle.message_parts.specs.declared.parts.WrittenTold.{WrittenTold}
 use Rattle.receive_frame.specs.Frame.{frameOf}
-use Rattle.receive_frame.specs.Numbers.{numbersOf}
 use Rattle.linkbox_frame.specs.Sides as C
 use Rattle.linkbox_state.specs.declared.NewBox.{NewBox}
 use Rattle.linkbox_state.specs.NewBox.{newBox}
@@ -38,7 +37,7 @@ use Rattle.paper_said.specs.Words.{sideOf, takenOver, frameAnswer, conditionsAn
 use Rattle.paper_said.specs.Ours.{ours}
 use Rattle.paper_said.proofs.Follows.{ours-follows}
 use Rattle.paper_said.specs.Told as Told
-use Rattle.paper_said.specs.Told.{Numbers, counted, frameNumbers}
+use Rattle.paper_said.specs.Told.{Numbers, counted, frameAsNumbers}
 use Rattle.paper_said.proofs.Told.{told-alike}
 use Rattle.paper_said.proofs.Tied.{from-arrays, taken-over}
 use Rattle.linkbox_said.specs.Heard.{plainSays, frameSays, tickSays, sendSays}
@@ -62,15 +61,15 @@ module _ (s : State) (n : ℕ) (x : Arrival) (by : x .side ≡ sideBy n) where
   abbrev from : Side → Ended State FrameAnswer
   from d = frameOf s d (x .octets) (x .receive) (x .transmit) (x .buffer)
 
-  frame-tells : (r : FrameTold) (z : State) (b : List ℕ) → ended r z b ≡ toldBy told (from (C.sideOf n))
-      → Tells (frameSays r) (frameNumbers r) z b call.nothing (ours s (call.frame x))
+  frame-tells : (r : FrameTold) (z : State) (b : List ℕ) → ended r z b ≡ toldBy frameTold (from (C.sideOf n))
+      → Tells (frameSays r) (frameAsNumbers r) z b call.nothing (ours s (call.frame x))
   frame-tells r z b e =
       let d : C.sideOf n ≡ sideOf (x .side) = sym (ap sideOf by ∙ side-is (eqb n 0)) in
       record {
         answer = ap frameSays (answer-is e) ∙ frame-says _ ∙ ap (λ (y : Side). frameAnswer (from y .answer)) d;
-        numbers = ap frameNumbers (answer-is e)
+        numbers = ap frameAsNumbers (answer-is e)
             ∙ told-alike .frame (from (C.sideOf n) .answer)
-            ∙ ap (λ (y : Side). Told.numbersOf (frameAnswer (from y .answer))) d;
+            ∙ ap (λ (y : Side). Told.answerNumbers (frameAnswer (from y .answer))) d;
         state = state-is e ∙ ap (λ (y : Side). from y .state) d;
         buffer = buffer-is e ∙ ap (λ (y : Side). from y .buffer) d;
         out = refl;
@@ -82,10 +81,10 @@ module _ (words names ids : List ℕ) (before : State) (r : NewBox) (e : r ≡ n
   abbrev t : Settings
   t = settingsOf words names ids
 
-  told-is : r .refusal ≡ numbers t .refusal
+  told-is : r .refusal ≡ settingNumbers t .refusal
   told-is = ap (λ (x : NewBox). x .refusal) e
 
-  refusal-is : r .refusal ≡ Setting.told (answerOf t) .refusal
+  refusal-is : r .refusal ≡ Setting.settingTold (answerOf t) .refusal
   refusal-is = told-is ∙ ap (λ (x : SettingTold). x .refusal) (sym (starts .agree t))
 
   out-is : shown (r .state) ≡ afterSetting t
@@ -103,7 +102,7 @@ module _ (words names ids : List ℕ) (before : State) (r : NewBox) (e : r ≡ n
 
 -- ── conditions ──
 
-refused-is : (t : ConditionsTold) → counted (t .refusal) 0 0 ≡ Told.numbersOf (conditionsAnswer t)
+refused-is : (t : ConditionsTold) → counted (t .refusal) 0 0 ≡ Told.answerNumbers (conditionsAnswer t)
 refused-is t =
     ⊎-elim
     (λ (e : eqb (t .refusal) 0 ≡ true). rw e (ap (λ (n : ℕ). counted n 0 0) (eqb-true (t .refusal) 0 e)))
@@ -167,7 +166,7 @@ shipped = record {
   conditions = λ κs a r s p o q. (
     tied _ _ o tt q (record {
       answer = ap conditionsAnswer p;
-      numbers = refused-is r ∙ ap (λ (x : ConditionsTold). Told.numbersOf (conditionsAnswer x)) p;
+      numbers = refused-is r ∙ ap (λ (x : ConditionsTold). Told.answerNumbers (conditionsAnswer x)) p;
       state = refl;
       buffer = refl;
       out = refl;

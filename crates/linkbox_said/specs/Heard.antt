@@ -74,21 +74,21 @@ tlvSays t f =
 -- ── the numbers of an answer ──
 
 -- a record that is written, a loss line that is read
-abbrev pub writeNumbers : RecordTells → RecordTold
-writeNumbers (stored.refused n) = record { refusal = n; length = 0 }
-writeNumbers (stored.settings s) = record { refusal = 0; length = 0 }
-writeNumbers (stored.line l) = record { refusal = 0; length = 0 }
-writeNumbers (stored.written n) = record { refusal = 0; length = n }
+abbrev pub writeHeard : RecordTells → RecordTold
+writeHeard (stored.refused n) = record { refusal = n; length = 0 }
+writeHeard (stored.settings s) = record { refusal = 0; length = 0 }
+writeHeard (stored.line l) = record { refusal = 0; length = 0 }
+writeHeard (stored.written n) = record { refusal = 0; length = n }
 
-abbrev pub lineNumbers : RecordTells → LineTold
-lineNumbers (stored.refused n) = record { refusal = n; intervals = 0; near = pos 0; far = pos 0 }
-lineNumbers (stored.settings s) = record { refusal = 0; intervals = 0; near = pos 0; far = pos 0 }
-lineNumbers (stored.line l) = record { refusal = 0; intervals = l .intervals; near = l .near; far = l .far }
-lineNumbers (stored.written n) = record { refusal = 0; intervals = 0; near = pos 0; far = pos 0 }
+abbrev pub lineHeard : RecordTells → LineTold
+lineHeard (stored.refused n) = record { refusal = n; intervals = 0; near = pos 0; far = pos 0 }
+lineHeard (stored.settings s) = record { refusal = 0; intervals = 0; near = pos 0; far = pos 0 }
+lineHeard (stored.line l) = record { refusal = 0; intervals = l .intervals; near = l .near; far = l .far }
+lineHeard (stored.written n) = record { refusal = 0; intervals = 0; near = pos 0; far = pos 0 }
 
 -- a TLV: its refusal, its drop, whether there is a value; and how long that is
-abbrev pub tlvNumbers : ReaderTells → TlvTold
-tlvNumbers (reader.refused n) = record { refusal = n; drop = 0; value = 0 }
-tlvNumbers (reader.dropped n) = record { refusal = 0; drop = n; value = 0 }
-tlvNumbers (reader.value v) = record { refusal = 0; drop = 0; value = 1 }
-tlvNumbers reader.no-such = record { refusal = 0; drop = 0; value = 0 }
+abbrev pub tlvHeard : ReaderTells → TlvTold
+tlvHeard (reader.refused n) = record { refusal = n; drop = 0; value = 0 }
+tlvHeard (reader.dropped n) = record { refusal = 0; drop = n; value = 0 }
+tlvHeard (reader.value v) = record { refusal = 0; drop = 0; value = 1 }
+tlvHeard reader.no-such = record { refusal = 0; drop = 0; value = 0 }

@@ -7,7 +7,7 @@ use denote.Ref.{RefT, now}
 use Rattle.state_view.specs.State.{State, shown}
 use Rattle.state_view.specs.Arguments.{Arrays, held, left, leftTick, leftSession}
 use Rattle.base_stamp.specs.declared.Stamp.{Stamp}
-use Rattle.paper_said.specs.Calls.{Side, active, passive, Arrival}
+use Rattle.paper_said.specs.Calls.{ArrivalSide, active, passive, Arrival}
 
 -- the state that lies in a call's arguments
 abbrev pub stateIn : {X : Type 0} → Arrays X → State
@@ -24,7 +24,7 @@ abbrev pub leftByClear : {X Y : Type 0} → Arrays X → Arrays Y → State
 leftByClear a s = shown (leftSession a s)
 
 -- C names a side by a number: 0 is the active side, any other the passive one
-abbrev pub sideBy : ℕ → Side
+abbrev pub sideBy : ℕ → ArrivalSide
 sideBy n = cond (eqb n 0) active passive
 
 -- a frame as it is handed over behind the arrays: its side, its octets, two stamps, the buffer

@@ -16,7 +16,7 @@ use Rattle.paper_said.specs.Calls as call
 use Rattle.paper_said.specs.Calls.{Answer, HandedOut, nothing, Outcome}
 use Rattle.paper_said.specs.Said.{Said}
 use Rattle.paper_said.specs.Words.{takenOver, conditionsAnswer}
-use Rattle.paper_said.specs.Told.{Numbers, counted, numbersOf, frameNumbers}
+use Rattle.paper_said.specs.Told.{Numbers, counted, answerNumbers, frameAsNumbers}
 use Rattle.paper_beside.specs.Records as stored
 use Rattle.paper_beside.specs.Records.{RecordLeft, leaving, RecordSaid}
 use Rattle.paper_beside.specs.Reader.{ReaderTells, ReaderSaid}
@@ -32,14 +32,14 @@ use Rattle.linkbox_records.proofs.linkbox_write_settings.Reads as write-setting
 use Rattle.linkbox_records.proofs.linkbox_read_line.Reads as read-line
 use Rattle.linkbox_records.proofs.linkbox_write_line.Reads as write-line
 use Rattle.linkbox_reader.proofs.linkbox_tlv.Reads as tlv
-use Rattle.linkbox_said.specs.Heard.{plainSays, frameSays, tickSays, sendSays, settingsSays, writeSays, lineSays, tlvSays, writeNumbers, lineNumbers, tlvNumbers}
+use Rattle.linkbox_said.specs.Heard.{plainSays, frameSays, tickSays, sendSays, settingsSays, writeSays, lineSays, tlvSays, writeHeard, lineHeard, tlvHeard}
 use Rattle.linkbox_said.specs.Lying.{stateIn, leftByFrame, leftByTick, leftByClear, arrivalIn}
 
 -- the answer that C reads from its numbers is the paper's, and the numbers are those of that answer, all others 0; the state that lies with
 -- C then, its buffer, and what it is handed out are the paper's too
 pub record Tells (x : Answer) (n : Numbers) (s : State) (b : List ℕ) (h : HandedOut) (o : Outcome) : Type 0 where
   pub answer : x ≡ o .answer
-  pub numbers : n ≡ numbersOf (o .answer)
+  pub numbers : n ≡ answerNumbers (o .answer)
   pub state : s ≡ o .state
   pub buffer : b ≡ o .buffer
   pub out : h ≡ o .out
@@ -54,7 +54,7 @@ pub record Shipped : Type 1 where
       (call.a-state (shown (r .state))) o
   pub frame : (κs : _) (a : _) (r : _) (s : _) → frame.Post κs a r s → Octets (now (behind a .1 .0)) → (o : Outcome)
       → Said (stateIn a) (call.frame (arrivalIn (behind a))) o
-      → Tells (frameSays r) (frameNumbers r) (leftByFrame a s) (now (behind s .1 .1 .1 .1 .0)) nothing o
+      → Tells (frameSays r) (frameAsNumbers r) (leftByFrame a s) (now (behind s .1 .1 .1 .1 .0)) nothing o
   pub tick : (κs : _) (a : _) (r : _) (s : _) → tick.Post κs a r s → (o : Outcome) → Said (stateIn a) (call.tick (now (behind a .0))) o
       → Tells (tickSays r) (counted (r .refusal) 0 (r .length)) (leftByTick a s) (now (behind s .0)) nothing o
   pub clear : (κs : _) (a : _) (r : _) (s : _) → clear.Post κs a r s → (o : Outcome) → Said (stateIn a) call.clear o
@@ -79,14 +79,14 @@ pub record ShippedBeside : Type 1 where
       → RecordSaid (stored.read-settings (now (a .0))) o → (leaving (settingsSays r) [] ≡ o) × ((r .refusal ≡ 0 → ⊥) → r ≡ refusedRead)
   pub write-settings : (κs : _) (a : _) (r : _) (s : _) → write-settings.Post κs a r s → (o : RecordLeft)
       → RecordSaid (stored.write-settings (settingsOf (now (a .1 .0)) (now (a .1 .1 .0)) (now (a .1 .1 .1 .0))) (now (a .0))) o
-      → (leaving (writeSays r) (now (s .0)) ≡ o) × (r ≡ writeNumbers (o .answer))
+      → (leaving (writeSays r) (now (s .0)) ≡ o) × (r ≡ writeHeard (o .answer))
   pub read-line : (κs : _) (a : _) (r : _) (s : _) → read-line.Post κs a r s → (o : RecordLeft)
-      → RecordSaid (stored.read-line (now (a .0))) o → (leaving (lineSays r) [] ≡ o) × (r ≡ lineNumbers (o .answer))
+      → RecordSaid (stored.read-line (now (a .0))) o → (leaving (lineSays r) [] ≡ o) × (r ≡ lineHeard (o .answer))
   pub write-line : (κs : _) (a : _) (r : _) (s : _) → write-line.Post κs a r s → (o : RecordLeft)
-      → RecordSaid (stored.write-line (a .1 .0) (now (a .0))) o → (leaving (writeSays r) (now (s .0)) ≡ o) × (r ≡ writeNumbers (o .answer))
+      → RecordSaid (stored.write-line (a .1 .0) (now (a .0))) o → (leaving (writeSays r) (now (s .0)) ≡ o) × (r ≡ writeHeard (o .answer))
   -- a TLV, its place and length 0 where there is no value
   pub tlv : (κs : _) (a : _) (r : _) (s : _) → tlv.Post κs a r s → Octets (now (a .0)) → (o : ReaderTells)
       → ReaderSaid (now (a .0)) (a .1 .0) o
       → (tlvSays r (now (a .0)) ≡ o)
-      × (record { refusal = r .refusal; drop = r .drop; value = r .value } ≡ tlvNumbers o)
+      × (record { refusal = r .refusal; drop = r .drop; value = r .value } ≡ tlvHeard o)
       × (r .value ≡ 0 → (r .start ≡ 0) × (r .length ≡ 0))

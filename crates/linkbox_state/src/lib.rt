@@ -8,7 +8,7 @@ ghost use Rattle.state_settings.specs.Settings.{slots, lentSettings, Shaped};
 ghost use Rattle.base_laws.specs.Ended.{ended, toldBy};
 ghost use Rattle.state_view.specs.State.{before, afterSession};
 ghost use Rattle.state_places.specs.Stored.{Whole};
-ghost use Rattle.call_clear.specs.Clear.{clearOf, told};
+ghost use Rattle.call_clear.specs.Clear.{clearOf, clearTold};
 ghost use Rattle.call_conditions.specs.Conditions.{conditionsOf};
 ghost use Rattle.linkbox_state.specs.NewBox.{newBox};
 use call_conditions::ConditionsTold;
@@ -54,7 +54,7 @@ pub extern "C" fn linkbox_clear(
     totals: &mut Totals,
 ) -> u32
     ensures { λ r. ⌜ ended r (afterSession set names ids timers rdi run totals) [] ≡
-        toldBy (λ answer. told answer .refusal) (clearOf (before set names ids timers rdi run totals)) ⌝ }
+        toldBy (λ answer. clearTold answer .refusal) (clearOf (before set names ids timers rdi run totals)) ⌝ }
     ensures { λ _. ⌜ Whole (now (run .exit)) (now (totals .exit)) ⌝ }
 {
     let answer = call_clear::clear(set, names, ids, timers, rdi, run, totals);

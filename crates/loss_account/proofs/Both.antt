@@ -8,10 +8,11 @@ use lib.Dec.{eqb}
 use lib.ListN.{length, length-map}
 use Rattle.loss_reading.specs.declared.LossAnswer.{LossAnswer}
 use Rattle.loss_reading.specs.declared.LossAnswer.the-variants.{NotWellFormed, Full, First, Measured}
-use Rattle.loss_session.specs.Session.{Side, near, far, clearedSession, mostReadings}
+use Rattle.loss_session.specs.Session.{LossEnd, near, far, clearedSession, mostReadings}
 use Rattle.loss_reading.specs.Reading.{afterReading}
 use Rattle.loss_account.specs.Account.{lost, losses}
-use Rattle.loss_account.specs.Demand3.{Step, answers, Seen, refused, kept, loss, seen, accounted, Shows, Demand3, Counts, truthOf, shown, measurements, accountedBoth, Demand3Both}
+use Rattle.loss_account.specs.Demand3.{Step, answers, Seen, refused, kept, loss, seen, accounted, Shows, Demand3, Counts, truthOf}
+use Rattle.loss_account.specs.Demand3.{shown, measurements, accountedBoth, Demand3Both}
 use Rattle.loss_account.proofs.Meets.{meets}
 
 -- an answer from what the two sides see of it: `which` tells one refusal from the other; sides that do not fit together never come up
@@ -42,17 +43,19 @@ pairs-seen [] = refl
 pairs-seen (x ∷ xs) = ap₂ _∷_ (joined-seen x) (pairs-seen xs)
 
 -- readings of true counts show them, on either side
-pub shows : (d : Side) (ts : List Counts) → Shows d (map shown ts) (map (truthOf d) ts)
+pub shows : (d : LossEnd) (ts : List Counts) → Shows d (map shown ts) (map (truthOf d) ts)
 shows d [] = tt
 shows near (t ∷ ts) = (refl, refl, shows near ts)
 shows far (t ∷ ts) = (refl, refl, shows far ts)
 
 pairs-losses : (t : Counts) (ts : List Counts)
-    → pairs (map loss (losses (truthOf near t) (map (truthOf near) ts))) (map loss (losses (truthOf far t) (map (truthOf far) ts))) ≡ measurements t ts
+    → pairs (map loss (losses (truthOf near t) (map (truthOf near) ts))) (map loss (losses (truthOf far t) (map (truthOf far) ts)))
+    ≡ measurements t ts
 unfolding losses measurements
 pairs-losses t [] = refl
 pairs-losses t (u ∷ us) =
-    ap (λ (l : List LossAnswer). Measured (lost (truthOf near t) (truthOf near u)) (lost (truthOf far t) (truthOf far u)) ∷ l) (pairs-losses u us)
+    ap (λ (l : List LossAnswer). Measured (lost (truthOf near t) (truthOf near u)) (lost (truthOf far t) (truthOf far u)) ∷ l)
+    (pairs-losses u us)
 
 pairs-account : (ts : List Counts) → pairs (accounted (map (truthOf near) ts)) (accounted (map (truthOf far) ts)) ≡ accountedBoth ts
 unfolding accounted accountedBoth

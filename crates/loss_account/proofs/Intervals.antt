@@ -42,14 +42,16 @@ starts r = reading-first clearedSession r (well clearedSession .1 cleared-well) 
 pub started : (r : Readings) → Reach 0 (afterReading clearedSession r .session)
 started r = record { fine = stays clearedSession r cleared-well; held = rw (starts r) refl; count = rw (starts r) refl }
 
-counts : (rs : List Readings) (n : ℕ) (s : LossSession) → Reach n s → n + length rs ≤ mostIntervals → Reach (n + length rs) (leaves afterReading s rs)
+counts : (rs : List Readings) (n : ℕ) (s : LossSession) → Reach n s → n + length rs ≤ mostIntervals
+    → Reach (n + length rs) (leaves afterReading s rs)
 unfolding after
 counts [] n s h few = rw (add-zero n) h
 counts (r ∷ rs) n s h few =
     let e : n + suc (length rs) ≡ (n + 1) + length rs = omega arith in
     rw e (counts rs (n + 1) (afterReading s r .session) (more n s h r (omega arith)) (omega arith))
 
-fills : (rs : List Readings) (n : ℕ) (s : LossSession) → Reach n s → n ≤ mostIntervals → mostIntervals ≤ n + length rs → Reach mostIntervals (leaves afterReading s rs)
+fills : (rs : List Readings) (n : ℕ) (s : LossSession) → Reach n s → n ≤ mostIntervals → mostIntervals ≤ n + length rs
+    → Reach mostIntervals (leaves afterReading s rs)
 unfolding after
 fills [] n s h few many = let e : n ≡ mostIntervals = omega arith in rw e at h
 fills (r ∷ rs) n s h few many = go (λ m z. fills rs m z) (eqb n mostIntervals) refl
@@ -73,4 +75,5 @@ pub later : (rs : List Readings) (r : Readings) → mostReadings ≤ length rs
     → afterReading (leaves afterReading clearedSession rs) r ≡ record { answer = Full; session = leaves afterReading clearedSession rs }
 unfolding after
 later [] r many = absurd (omega arith)
-later (q ∷ rs) r many = stops mostIntervals _ (fills rs 0 (afterReading clearedSession q .session) (started q) (omega arith) (omega arith)) r refl
+later (q ∷ rs) r many =
+    stops mostIntervals _ (fills rs 0 (afterReading clearedSession q .session) (started q) (omega arith) (omega arith)) r refl

@@ -71,7 +71,8 @@ repeats-out d =
 signless-out : Demand3 signless → ⊥
 unfolding answers afterReading choose wellFormed accounted losses
 signless-out d =
-    let a = d .side near (reading 0 0 ∷ reading 0 1 ∷ []) (truth 0 0 ∷ truth 0 1 ∷ []) (omega arith) (refl, refl, (refl, refl, tt)) (still 0, step 0, tt) in
+    let a = d .side near (reading 0 0 ∷ reading 0 1 ∷ []) (truth 0 0 ∷ truth 0 1 ∷ []) (omega arith) (refl, refl, (refl, refl, tt))
+    (still 0, step 0, tt) in
     differ 4294967295 0 4294967294 (ap lastNumber (a .results)) refl
 
 -- sent 4,294,967,295, 4,294,967,296, received 0, 0: the interval's loss is 1
@@ -86,7 +87,8 @@ wrapless-out d =
 crossed-out : Demand3 crossed → ⊥
 unfolding answers afterReading choose wellFormed accounted losses
 crossed-out d =
-    let a = d .side near (reading 0 0 ∷ reading 1 0 ∷ []) (truth 0 0 ∷ truth 1 0 ∷ []) (omega arith) (refl, refl, (refl, refl, tt)) (step 0, still 0, tt) in
+    let a = d .side near (reading 0 0 ∷ reading 1 0 ∷ []) (truth 0 0 ∷ truth 1 0 ∷ []) (omega arith) (refl, refl, (refl, refl, tt))
+    (step 0, still 0, tt) in
     differ 1 0 0 (sym (ap lastNumber (a .results))) refl
 
 -- sent 0, 1, 1, received 0, 0, 0: the total is 1
@@ -101,13 +103,15 @@ forgetful-out d =
 renews : (s : LossSession) (r : Readings) → s .intervals ≡ mostIntervals → renewing s r .session .last ≡ r
 renews s r e = rw (eq-eqb (s .intervals) mostIntervals e)
 
-keeps-any : Demand3 renewing → (rs : List Readings) → length rs ≡ mostReadings → (r : Readings) → leaves renewing clearedSession rs .last ≡ r
+keeps-any : Demand3 renewing → (rs : List Readings) → length rs ≡ mostReadings → (r : Readings)
+    → leaves renewing clearedSession rs .last ≡ r
 keeps-any d rs l r =
     let e : leaves renewing clearedSession rs .intervals ≡ mostIntervals = omega (arith, d .intervals rs (omega arith)) in
     sym (ap (λ (u : Updated). u .session .last) (d .later rs r (omega arith))) ∙ renews (leaves renewing clearedSession rs) r e
 
 renewing-no : (rs : List Readings) → length rs ≡ mostReadings → Demand3 renewing → ⊥
-renewing-no rs l d = differ 1 0 0 (ap (λ (r : Readings). r .txb) (sym (keeps-any d rs l (reading 1 0)) ∙ keeps-any d rs l (reading 0 0))) refl
+renewing-no rs l d =
+    differ 1 0 0 (ap (λ (r : Readings). r .txb) (sym (keeps-any d rs l (reading 1 0)) ∙ keeps-any d rs l (reading 0 0))) refl
 
 renewing-out : Demand3 renewing → ⊥
 renewing-out = renewing-no (replicate mostReadings (reading 0 0)) (length-replicate mostReadings (reading 0 0))

@@ -5,7 +5,7 @@ use mathlib.Core.List.{List, [], _∷_, map}
 use native.Mathlib.Omega.{arith}
 use lib.ListN.{length}
 use Rattle.loss_session.specs.declared.Readings.{Readings}
-use Rattle.loss_session.specs.Session.{Side, near, far, sentOf, receivedOf, clearedSession, mostReadings}
+use Rattle.loss_session.specs.Session.{LossEnd, near, far, sentOf, receivedOf, clearedSession, mostReadings}
 use Rattle.loss_account.specs.Account.{Truth, Grows, GoesOn, Sound}
 use Rattle.loss_account.specs.Demand3.{Step, answers, Shows, Agrees, Demand3, Counts, truthOf, shown, Steady, Small, Tight}
 use Rattle.loss_account.proofs.Both.{pairs, pairs-seen}
@@ -21,20 +21,24 @@ onTo-grows : (a b : ℕ) → Grows a (onTo a b)
 onTo-grows a b = record { rises = omega arith; small = omega arith }
 
 -- true counts that the readings show, built up from t
-abbrev next : Side → Truth → Readings → Truth
+abbrev next : LossEnd → Truth → Readings → Truth
 next d t r = record { sent = onTo (t .sent) (sentOf d r); received = onTo (t .received) (receivedOf d r) }
 
-unfoldable build : Side → Truth → List Readings → List Truth
+unfoldable build : LossEnd → Truth → List Readings → List Truth
 build d t [] = []
 build d t (r ∷ rs) = next d t r ∷ build d (next d t r) rs
 
-build-shows : (d : Side) (t : Truth) (rs : List Readings) → Small rs → Shows d rs (build d t rs)
+build-shows : (d : LossEnd) (t : Truth) (rs : List Readings) → Small rs → Shows d rs (build d t rs)
 unfolding build
 build-shows d t [] h = tt
-build-shows d t (r ∷ rs) h =
-    (onTo-read (t .sent) (sentOf d r) (h .0 d .0), onTo-read (t .received) (receivedOf d r) (h .0 d .1), build-shows d (next d t r) rs (h .1))
+build-shows d t (r ∷ rs) h = (
+  onTo-read (t .sent) (sentOf d r) (h .0 d .0),
+  onTo-read (t .received) (receivedOf d r) (h .0 d .1),
+  build-shows d (next d t r) rs
+      (h .1),
+)
 
-build-goes : (d : Side) (t : Truth) (rs : List Readings) → GoesOn t (build d t rs)
+build-goes : (d : LossEnd) (t : Truth) (rs : List Readings) → GoesOn t (build d t rs)
 unfolding build
 build-goes d t [] = tt
 build-goes d t (r ∷ rs) = (onTo-grows (t .sent) (sentOf d r), onTo-grows (t .received) (receivedOf d r), build-goes d (next d t r) rs)
@@ -42,13 +46,13 @@ build-goes d t (r ∷ rs) = (onTo-grows (t .sent) (sentOf d r), onTo-grows (t .r
 abbrev origin : Truth
 origin = record { sent = 0; received = 0 }
 
-sound : (d : Side) (rs : List Readings) → Sound (build d origin rs)
+sound : (d : LossEnd) (rs : List Readings) → Sound (build d origin rs)
 unfolding build
 sound d [] = tt
 sound d (r ∷ rs) = build-goes d (next d origin r) rs
 
 -- so any readings of 32 bits show true counts that neither fall nor grow too far
-pub shown-by : (d : Side) (rs : List Readings) → Small rs → (ts : List Truth) × (Shows d rs ts) × (Sound ts)
+pub shown-by : (d : LossEnd) (rs : List Readings) → Small rs → (ts : List Truth) × (Shows d rs ts) × (Sound ts)
 shown-by d rs small = (build d origin rs, build-shows d origin rs small, sound d rs)
 
 -- and of all four counts at once
@@ -60,7 +64,7 @@ onward t r = record {
   ours = onTo (t .ours) (r .ours);
 }
 
-onward-read : (t : Counts) (r : Readings) → ((d : Side) → (sentOf d r < 2 ^ 32) × (receivedOf d r < 2 ^ 32)) → shown (onward t r) ≡ r
+onward-read : (t : Counts) (r : Readings) → ((d : LossEnd) → (sentOf d r < 2 ^ 32) × (receivedOf d r < 2 ^ 32)) → shown (onward t r) ≡ r
 onward-read t r k =
     rw (
       sym (onTo-read (t .txf) (r .txf) (k far .0)),
@@ -73,7 +77,7 @@ unfoldable countsFrom : Counts → List Readings → List Counts
 countsFrom t [] = []
 countsFrom t (r ∷ rs) = onward t r ∷ countsFrom (onward t r) rs
 
-counts-sides : (d : Side) (t : Counts) (rs : List Readings) → map (truthOf d) (countsFrom t rs) ≡ build d (truthOf d t) rs
+counts-sides : (d : LossEnd) (t : Counts) (rs : List Readings) → map (truthOf d) (countsFrom t rs) ≡ build d (truthOf d t) rs
 unfolding build countsFrom
 counts-sides d t [] = refl
 counts-sides near t (r ∷ rs) = ap (λ (l : List Truth). next near (truthOf near t) r ∷ l) (counts-sides near (onward t r) rs)
@@ -90,11 +94,12 @@ nothing = record { txf = 0; rxf = 0; txb = 0; ours = 0 }
 pub shown-by-all : (rs : List Readings) → Small rs → (ts : List Counts) × (map shown ts ≡ rs) × Steady ts
 shown-by-all rs small = (countsFrom nothing rs, counts-shown nothing rs small, steady)
   where
-    steady : (d : Side) → Sound (map (truthOf d) (countsFrom nothing rs))
+    steady : (d : LossEnd) → Sound (map (truthOf d) (countsFrom nothing rs))
     steady near = rw (counts-sides near nothing rs) (sound near rs)
     steady far = rw (counts-sides far nothing rs) (sound far rs)
 
-agrees : (f : Step) → Demand3 f → (rs : List Readings) → length rs ≤ mostReadings → Small rs → (d : Side) → Agrees f d rs (build d origin rs)
+agrees : (f : Step) → Demand3 f → (rs : List Readings) → length rs ≤ mostReadings → Small rs → (d : LossEnd)
+    → Agrees f d rs (build d origin rs)
 agrees f m rs few small d = m .side d rs (build d origin rs) few (build-shows d origin rs small) (sound d rs)
 
 pub tight : Tight
@@ -102,7 +107,9 @@ tight f g m k rs few small =
     let a = agrees f m rs few small in
     let b = agrees g k rs few small in
     record {
-      results = sym (pairs-seen (answers f clearedSession rs)) ∙ ap₂ pairs (a near .results ∙ sym (b near .results)) (a far .results ∙ sym (b far .results)) ∙ pairs-seen (answers g clearedSession rs);
+      results = sym (pairs-seen (answers f clearedSession rs))
+          ∙ ap₂ pairs (a near .results ∙ sym (b near .results)) (a far .results ∙ sym (b far .results))
+          ∙ pairs-seen (answers g clearedSession rs);
       totals = λ d. a d .totals ∙ sym (b d .totals);
       intervals = m .intervals rs few ∙ sym (k .intervals rs few);
     }

@@ -12,7 +12,7 @@ use Rattle.loss_session.specs.declared.LossSession.{LossSession}
 use Rattle.loss_reading.specs.declared.LossAnswer.{LossAnswer}
 use Rattle.loss_reading.specs.declared.LossAnswer.the-variants.{NotWellFormed, Full, First, Measured}
 use Rattle.loss_reading.specs.declared.Updated.{Updated}
-use Rattle.loss_session.specs.Session.{Side, near, far, sentOf, receivedOf, totalOf, clearedSession, mostReadings}
+use Rattle.loss_session.specs.Session.{LossEnd, near, far, sentOf, receivedOf, totalOf, clearedSession, mostReadings}
 use Rattle.loss_account.specs.Account.{Truth, Sound, lost, losses, total}
 
 abbrev pub Step : Type 0
@@ -34,7 +34,7 @@ pub data Seen : Type 0 where
   kept : Seen
   loss : ℤ → Seen
 
-abbrev pub seen : Side → LossAnswer → Seen
+abbrev pub seen : LossEnd → LossAnswer → Seen
 seen d NotWellFormed = refused 2
 seen d Full = refused 5
 seen d First = kept
@@ -47,21 +47,21 @@ accounted [] = []
 accounted (t ∷ ts) = kept ∷ map loss (losses t ts)
 
 -- the readings show that side's true counts, each modulo 2^32; of the other side they may show anything
-abbrev pub Shows : Side → List Readings → List Truth → Type 0
+abbrev pub Shows : LossEnd → List Readings → List Truth → Type 0
 Shows d [] [] = Unit {0}
 Shows d [] (t ∷ ts) = ⊥
 Shows d (r ∷ rs) [] = ⊥
 Shows d (r ∷ rs) (t ∷ ts) = (sentOf d r ≡ t .sent % 2 ^ 32) × (receivedOf d r ≡ t .received % 2 ^ 32) × Shows d rs ts
 
 -- one side of a run from a cleared session agrees with the account
-pub record Agrees (f : Step) (d : Side) (rs : List Readings) (ts : List Truth) : Type 0 where
+pub record Agrees (f : Step) (d : LossEnd) (rs : List Readings) (ts : List Truth) : Type 0 where
   pub results : map (seen d) (answers f clearedSession rs) ≡ accounted ts
   pub totals : totalOf d (leaves f clearedSession rs) ≡ total ts
 
 -- the demand
 pub record Demand3 (f : Step) : Type 0 where
   -- each side agrees, by the premise on its own two counts alone
-  pub side : (d : Side) (rs : List Readings) (ts : List Truth) → length rs ≤ mostReadings → Shows d rs ts → Sound ts → Agrees f d rs ts
+  pub side : (d : LossEnd) (rs : List Readings) (ts : List Truth) → length rs ≤ mostReadings → Shows d rs ts → Sound ts → Agrees f d rs ts
   -- the intervals are one fewer than the readings, or 0 if there were none, whatever the readings
   pub intervals : (rs : List Readings) → length rs ≤ mostReadings → leaves f clearedSession rs .intervals ≡ length rs - 1
   -- after 1,000,000,001 readings every further one is refused with 5 and changes nothing, whatever the readings
@@ -77,7 +77,7 @@ pub record Counts : Type 0 where
   pub txb : ℕ
   pub ours : ℕ
 
-abbrev pub truthOf : Side → Counts → Truth
+abbrev pub truthOf : LossEnd → Counts → Truth
 truthOf near t = record { sent = t .txb; received = t .ours }
 truthOf far t = record { sent = t .txf; received = t .rxf }
 
@@ -87,7 +87,7 @@ shown t = record { txf = t .txf % 2 ^ 32; rxf = t .rxf % 2 ^ 32; txb = t .txb % 
 
 -- no count falls, none grows by 2^32 or more
 abbrev pub Steady : List Counts → Type 0
-Steady ts = (d : Side) → Sound (map (truthOf d) ts)
+Steady ts = (d : LossEnd) → Sound (map (truthOf d) ts)
 
 -- the account's answers: the first reading kept, then both losses of each interval
 unfoldable pub measurements : Counts → List Counts → List LossAnswer
@@ -100,7 +100,7 @@ accountedBoth (t ∷ ts) = First ∷ measurements t ts
 
 pub record BothAgree (f : Step) (ts : List Counts) : Type 0 where
   pub results : answers f clearedSession (map shown ts) ≡ accountedBoth ts
-  pub totals : (d : Side) → totalOf d (leaves f clearedSession (map shown ts)) ≡ total (map (truthOf d) ts)
+  pub totals : (d : LossEnd) → totalOf d (leaves f clearedSession (map shown ts)) ≡ total (map (truthOf d) ts)
   pub intervals : leaves f clearedSession (map shown ts) .intervals ≡ length ts - 1
 
 abbrev pub Demand3Both : Step → Type 0
@@ -111,12 +111,12 @@ Demand3Both f = (ts : List Counts) → length ts ≤ mostReadings → Steady ts 
 -- readings of 32 bits
 abbrev pub Small : List Readings → Type 0
 Small [] = Unit {0}
-Small (r ∷ rs) = ((d : Side) → (sentOf d r < 2 ^ 32) × (receivedOf d r < 2 ^ 32)) × Small rs
+Small (r ∷ rs) = ((d : LossEnd) → (sentOf d r < 2 ^ 32) × (receivedOf d r < 2 ^ 32)) × Small rs
 
 -- two steps say and keep the same
 pub record Alike (f g : Step) (rs : List Readings) : Type 0 where
   pub results : answers f clearedSession rs ≡ answers g clearedSession rs
-  pub totals : (d : Side) → totalOf d (leaves f clearedSession rs) ≡ totalOf d (leaves g clearedSession rs)
+  pub totals : (d : LossEnd) → totalOf d (leaves f clearedSession rs) ≡ totalOf d (leaves g clearedSession rs)
   pub intervals : leaves f clearedSession rs .intervals ≡ leaves g clearedSession rs .intervals
 
 -- any two that meet the demand, whatever the readings

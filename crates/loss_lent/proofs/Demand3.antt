@@ -10,7 +10,7 @@ use Rattle.loss_session.specs.Session.{totalOf, clearedSession, mostReadings}
 use Rattle.loss_reading.specs.declared.LossTold.{LossTold}
 use Rattle.loss_reading.specs.declared.Updated.{Updated}
 use Rattle.loss_reading.specs.Reading.{afterReading}
-use Rattle.loss_reading.specs.Told.{told, refused}
+use Rattle.loss_reading.specs.Told.{lossTold, refused}
 use Rattle.loss_reading.proofs.Numbers.{told-numbers}
 use Rattle.loss_account.specs.Demand3.{leaves, Counts, shown, Steady, Small}
 use Rattle.loss_account.proofs.Meets.{meets}
@@ -26,18 +26,21 @@ agrees ts said e few steady run =
     let r = runs run in
     let b = both.ours ts few steady in
     record {
-      results = r .0 ∙ ap (map told) (b .results);
+      results = r .0 ∙ ap (map lossTold) (b .results);
       totals = λ d. ap (totalOf d) (r .1) ∙ b .totals d;
       intervals = ap (λ (s : LossSession). s .intervals) (r .1) ∙ b .intervals;
     }
 
 later : (rs : List Readings) (said : List LossTold) (s : LossSession) (r : Readings) (t : LossTold) (e : LossSession)
     → mostReadings ≤ length rs → LentRun Lent clearedSession rs said s → Lent s r t e → (t ≡ refused 5) × (e ≡ s)
-unfolding told
+unfolding lossTold
 later rs said s r t e many run p =
     let here : s ≡ leaves afterReading clearedSession rs = runs run .1 in
-    let full = ap (λ (x : LossSession). afterReading x r) here ∙ meets .later rs r many in
-    (p .0 ∙ sym (told-numbers s r) ∙ ap (λ (u : Updated). told (u .answer)) full, p .1 ∙ ap (λ (u : Updated). u .session) full ∙ sym here)
+    let full = ap (λ (x : LossSession). afterReading x r) here ∙ meets .later rs r many in (
+      p .0 ∙ sym (told-numbers s r) ∙ ap (λ (u : Updated). lossTold (u .answer)) full,
+      p .1 ∙ ap (λ (u : Updated). u .session) full
+          ∙ sym here,
+    )
 
 ours : LentDemand3 Lent
 ours = record {

@@ -9,7 +9,7 @@ use Rattle.loss_session.specs.declared.LossSession.{LossSession}
 use Rattle.loss_session.specs.Session.{mostIntervals}
 use Rattle.loss_reading.specs.declared.LossTold.{LossTold}
 use Rattle.loss_reading.specs.Reading.{afterReading}
-use Rattle.loss_reading.specs.Told.{numbersOf}
+use Rattle.loss_reading.specs.Told.{lossNumbers}
 use Rattle.loss_reading.proofs.Laws.{Case, bad, begins, stops, measures, cases}
 use Rattle.loss_reading.proofs.Refusals.{sessions}
 use Rattle.loss_lent.specs.Lent.{readingOf, Lent}
@@ -18,11 +18,16 @@ use Rattle.loss_lent.specs.Said.{LentSaid, lent-2, lent-first, lent-late
 module _ (s : LossSession) (r : Readings) where
   -- ours is what each line says
   told-is : {t : LossTold} {e : LossSession} → LentSaid s r t e → (readingOf s r .told ≡ t) × (readingOf s r .session ≡ e)
-  unfolding numbersOf afterReading choose
+  unfolding lossNumbers afterReading choose
   told-is (lent-2 n) = rw (fails (sessions .well s) n) (refl, refl)
   told-is (lent-first w k) = rw (sessions .well s .1 w, k) (refl, refl)
   told-is (lent-later w k n) =
-      rw (sessions .well s .1 w, ne-eqb (s .kept) 0 (λ e. omega (arith, e, k)), ne-eqb (s .intervals) mostIntervals (λ e. omega (arith, e, n))) (refl, refl)
+      rw (
+        sessions .well s .1 w,
+        ne-eqb (s .kept) 0 (λ e. omega (arith, e, k)),
+        ne-eqb (s .intervals) mostIntervals
+            (λ e. omega (arith, e, n)),
+      ) (refl, refl)
   told-is (lent-5 w k n) = rw (sessions .well s .1 w, ne-eqb (s .kept) 0 (λ e. omega (arith, e, k)), n) (refl, refl)
 
 -- the paper has a line for each case of a session

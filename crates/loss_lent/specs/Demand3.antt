@@ -6,9 +6,9 @@ use mathlib.Core.List.{List, map}
 use lib.ListN.{length}
 use Rattle.loss_session.specs.declared.Readings.{Readings}
 use Rattle.loss_session.specs.declared.LossSession.{LossSession}
-use Rattle.loss_session.specs.Session.{Side, totalOf, clearedSession, mostReadings}
+use Rattle.loss_session.specs.Session.{LossEnd, totalOf, clearedSession, mostReadings}
 use Rattle.loss_reading.specs.declared.LossTold.{LossTold}
-use Rattle.loss_reading.specs.Told.{told, refused}
+use Rattle.loss_reading.specs.Told.{lossTold, refused}
 use Rattle.loss_account.specs.Account.{total}
 use Rattle.loss_account.specs.Demand3.{Counts, truthOf, shown, Steady, accountedBoth, Small}
 use Rattle.loss_lent.specs.Lent.{Lent, Lending, LentRun}
@@ -17,8 +17,8 @@ use Rattle.loss_lent.specs.Lent.{Lent, Lending, LentRun}
 -- with its sign, and 0 and 0 of the first reading; both totals since the first reading; one interval fewer than readings, or 0 if there
 -- were none
 pub record LentAgrees (ts : List Counts) (said : List LossTold) (e : LossSession) : Type 0 where
-  pub results : said ≡ map told (accountedBoth ts)
-  pub totals : (d : Side) → totalOf d e ≡ total (map (truthOf d) ts)
+  pub results : said ≡ map lossTold (accountedBoth ts)
+  pub totals : (d : LossEnd) → totalOf d e ≡ total (map (truthOf d) ts)
   pub intervals : e .intervals ≡ length ts - 1
 
 -- the demand
@@ -36,7 +36,7 @@ pub record LentDemand3 (L : Lending) : Type 0 where
 -- two runs were told the same, and hold the same totals and intervals
 pub record LentAlike (said said′ : List LossTold) (e e′ : LossSession) : Type 0 where
   pub results : said ≡ said′
-  pub totals : (d : Side) → totalOf d e ≡ totalOf d e′
+  pub totals : (d : LossEnd) → totalOf d e ≡ totalOf d e′
   pub intervals : e .intervals ≡ e′ .intervals
 
 -- the lent session meets the demand; and no choice is left: any two that meet it are alike, whatever readings of 32 bits they are given

@@ -5,13 +5,13 @@ use Rattle.loss_session.specs.declared.Readings.{Readings}
 use Rattle.loss_session.specs.declared.LossSession.{LossSession}
 use Rattle.loss_reading.specs.declared.LossTold.{LossTold}
 use Rattle.loss_reading.specs.Reading.{afterReading}
-use Rattle.loss_reading.specs.Told.{told, numbersOf}
+use Rattle.loss_reading.specs.Told.{lossTold, lossNumbers}
 use Rattle.loss_account.specs.Demand3.{answers, leaves}
 use Rattle.loss_lent.specs.declared.Answered.{Answered}
 
 -- one more reading, in numbers
 abbrev pub readingOf : LossSession → Readings → Answered
-readingOf s r = record { told = numbersOf s r; session = afterReading s r .session }
+readingOf s r = record { told = lossNumbers s r; session = afterReading s r .session }
 
 -- what a lent session and a reading are told, and what then lies there
 abbrev pub Lent : LossSession → Readings → LossTold → LossSession → Type 0
@@ -33,4 +33,4 @@ pub record Lends : Type 0 where
   pub one : (s : LossSession) (r : Readings) (t t′ : LossTold) (e e′ : LossSession) → Lent s r t e → Lent s r t′ e′ → (t ≡ t′) × (e ≡ e′)
   -- a run tells the numbers of the session's rule by value, and leaves its session: so what demand 3 says of the rule, it says of the run
   pub runs : (s : LossSession) (rs : List Readings) (ts : List LossTold) (e : LossSession) → LentRun Lent s rs ts e
-      → (ts ≡ map told (answers afterReading s rs)) × (e ≡ leaves afterReading s rs)
+      → (ts ≡ map lossTold (answers afterReading s rs)) × (e ≡ leaves afterReading s rs)

@@ -13,7 +13,7 @@ use Rattle.base_laws.proofs.Signed.{add-size}
 use Rattle.loss_growth.proofs.Growing.{loss-size}
 use Rattle.loss_session.specs.declared.Readings.{Readings}
 use Rattle.loss_session.specs.declared.LossSession.{LossSession}
-use Rattle.loss_session.specs.Session.{Side, near, far, sentOf, receivedOf, totalOf, WellFormed, wellFormed, mostIntervals}
+use Rattle.loss_session.specs.Session.{LossEnd, near, far, sentOf, receivedOf, totalOf, WellFormed, wellFormed, mostIntervals}
 use Rattle.loss_session.proofs.Laws.{well}
 use Rattle.loss_reading.specs.declared.LossAnswer.the-variants.{NotWellFormed, Full}
 use Rattle.loss_reading.specs.Reading.{lossOn, unchanged, firstOf, measuredOf, afterReading}
@@ -54,7 +54,8 @@ cases s r = ⊎-elim good (λ f. bad (failed (well s) f) (reading-bad s r f)) (k
         let one : s .kept ≡ 1 = omega (arith, w .flag) in
         ⊎-elim
         (λ (e : eqb (s .intervals) mostIntervals ≡ true). stops w one (eqb-true _ _ e) (reading-full s r t k (eqb-true _ _ e)))
-        (λ (e : eqb (s .intervals) mostIntervals ≡ false). measures w one (omega (arith, w .few, eqb-false (s .intervals) mostIntervals e)) (reading-measured s r t k (eqb-false _ _ e)))
+        (λ (e : eqb (s .intervals) mostIntervals ≡ false). measures w one (omega (arith, w .few, eqb-false (s .intervals) mostIntervals e))
+        (reading-measured s r t k (eqb-false _ _ e)))
         (known (eqb (s .intervals) mostIntervals))
 
     good : wellFormed s ≡ true → Case s r
@@ -69,21 +70,29 @@ cases s r = ⊎-elim good (λ f. bad (failed (well s) f) (reading-bad s r f)) (k
 first-well : (s : LossSession) (r : Readings) → WellFormed s → WellFormed (firstOf s r .session)
 first-well s r w = record { flag = omega arith; few = w .few; nothing = λ e. absurd (omega arith); total = bound }
   where
-    bound : (d : Side) → natAbs (totalOf d (firstOf s r .session)) ≤ s .intervals * 4294967295
+    bound : (d : LossEnd) → natAbs (totalOf d (firstOf s r .session)) ≤ s .intervals * 4294967295
     bound near = w .total near
     bound far = w .total far
 
-pub measured-total : (d : Side) (s : LossSession) (r : Readings) → totalOf d (measuredOf s r .session) ≡ totalOf d s +ℤ lossOn d (s .last) r
+pub measured-total : (d : LossEnd) (s : LossSession) (r : Readings)
+    → totalOf d (measuredOf s r .session) ≡ totalOf d s +ℤ lossOn d (s .last) r
 measured-total near s r = refl
 measured-total far s r = refl
 
-pub measured-well : (s : LossSession) (r : Readings) → WellFormed s → s .kept ≡ 1 → s .intervals < mostIntervals → WellFormed (measuredOf s r .session)
+pub measured-well : (s : LossSession) (r : Readings) → WellFormed s → s .kept ≡ 1 → s .intervals < mostIntervals
+    → WellFormed (measuredOf s r .session)
 measured-well s r w k few = record { flag = w .flag; few = omega arith; nothing = λ e. absurd (omega arith); total = bound }
   where
-    bound : (d : Side) → natAbs (totalOf d (measuredOf s r .session)) ≤ (s .intervals + 1) * 4294967295
+    bound : (d : LossEnd) → natAbs (totalOf d (measuredOf s r .session)) ≤ (s .intervals + 1) * 4294967295
     bound d =
         rw (measured-total d s r)
-        (omega (arith, add-size (totalOf d s) (lossOn d (s .last) r), w .total d, loss-size (sentOf d (s .last)) (sentOf d r) (receivedOf d (s .last)) (receivedOf d r)))
+        (omega (
+          arith,
+          add-size (totalOf d s) (lossOn d (s .last) r),
+          w .total d,
+          loss-size (sentOf d (s .last)) (sentOf d r)
+              (receivedOf d (s .last)) (receivedOf d r),
+        ))
 
 pub stays : (s : LossSession) (r : Readings) → WellFormed s → WellFormed (afterReading s r .session)
 stays s r w = go (cases s r)

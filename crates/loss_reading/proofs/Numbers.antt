@@ -13,18 +13,19 @@ use Rattle.loss_reading.specs.declared.LossAnswer.the-variants.{NotWellF
 use Rattle.loss_reading.specs.declared.Updated.{Updated}
 use Rattle.loss_session.specs.Session.{wellFormed, mostIntervals}
 use Rattle.loss_reading.specs.Reading.{unchanged, firstOf, measuredOf, afterReading}
-use Rattle.loss_reading.specs.Told.{told, numbersOf, LossNumbers}
+use Rattle.loss_reading.specs.Told.{lossTold, lossNumbers, LossNumbers}
 
 -- the two chains have the same tests, in the same order
-pub told-numbers : (s : LossSession) (r : Readings) → told (afterReading s r .answer) ≡ numbersOf s r
-unfolding afterReading numbersOf choose told
+pub told-numbers : (s : LossSession) (r : Readings) → lossTold (afterReading s r .answer) ≡ lossNumbers s r
+unfolding afterReading lossNumbers choose lossTold
 told-numbers s r =
-    choose-map (λ (u : Updated). told (u .answer))
-    ((not (wellFormed s), unchanged NotWellFormed s) ∷ (eqb (s .kept) 0, firstOf s r) ∷ (eqb (s .intervals) mostIntervals, unchanged Full s) ∷ [])
+    choose-map (λ (u : Updated). lossTold (u .answer))
+    ((not (wellFormed s), unchanged NotWellFormed s) ∷ (eqb (s .kept) 0, firstOf s r) ∷ (eqb (s .intervals) mostIntervals, unchanged Full s)
+    ∷ [])
     (measuredOf s r)
 
-zeros : (a : LossAnswer) → ((told a .refusal ≡ 0) → ⊥) → (told a .near ≡ pos 0) × (told a .far ≡ pos 0)
-unfolding told
+zeros : (a : LossAnswer) → ((lossTold a .refusal ≡ 0) → ⊥) → (lossTold a .near ≡ pos 0) × (lossTold a .far ≡ pos 0)
+unfolding lossTold
 zeros NotWellFormed h = (refl, refl)
 zeros Full h = (refl, refl)
 zeros First h = (refl, refl)

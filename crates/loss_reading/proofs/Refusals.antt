@@ -37,9 +37,11 @@ module _ (s : LossSession) (r : Readings) where
   is-5 : Case s r → afterReading s r .answer ≡ Full → WellFormed s × (s .kept ≡ 1) × (s .intervals ≡ mostIntervals)
   unfolding numbered
   is-5 (bad n e) a = absurd (let z : _≡_ {A = ℕ} 2 5 = ap (λ (u : Updated). numbered (u .answer)) (sym e) ∙ ap numbered a in omega arith)
-  is-5 (begins v k e) a = absurd (let z : _≡_ {A = ℕ} 1 5 = ap (λ (u : Updated). numbered (u .answer)) (sym e) ∙ ap numbered a in omega arith)
+  is-5 (begins v k e) a =
+      absurd (let z : _≡_ {A = ℕ} 1 5 = ap (λ (u : Updated). numbered (u .answer)) (sym e) ∙ ap numbered a in omega arith)
   is-5 (stops v k i e) a = (v, k, i)
-  is-5 (measures v k i e) a = absurd (let z : _≡_ {A = ℕ} 1 5 = ap (λ (u : Updated). numbered (u .answer)) (sym e) ∙ ap numbered a in omega arith)
+  is-5 (measures v k i e) a =
+      absurd (let z : _≡_ {A = ℕ} 1 5 = ap (λ (u : Updated). numbered (u .answer)) (sym e) ∙ ap numbered a in omega arith)
 
   from-5 : Case s r → WellFormed s → s .kept ≡ 1 → s .intervals ≡ mostIntervals → afterReading s r ≡ unchanged Full s
   from-5 (bad n e) w k i = absurd (n w)

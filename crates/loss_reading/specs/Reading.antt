@@ -10,13 +10,13 @@ use Rattle.base_laws.specs.Tests.{choose}
 use Rattle.loss_growth.specs.Growth.{lossBetween}
 use Rattle.loss_session.specs.declared.Readings.{Readings}
 use Rattle.loss_session.specs.declared.LossSession.{LossSession}
-use Rattle.loss_session.specs.Session.{Side, near, far, sentOf, receivedOf, clearedSession, WellFormed, wellFormed, mostIntervals}
+use Rattle.loss_session.specs.Session.{LossEnd, near, far, sentOf, receivedOf, clearedSession, WellFormed, wellFormed, mostIntervals}
 use Rattle.loss_reading.specs.declared.LossAnswer.{LossAnswer}
 use Rattle.loss_reading.specs.declared.LossAnswer.the-variants.{NotWellFormed, Full, First, Measured}
 use Rattle.loss_reading.specs.declared.Updated.{Updated}
 
 -- one side's loss from an earlier reading to a later one
-abbrev pub lossOn : Side → Readings → Readings → ℤ
+abbrev pub lossOn : LossEnd → Readings → Readings → ℤ
 lossOn d earlier later = lossBetween (sentOf d earlier) (sentOf d later) (receivedOf d earlier) (receivedOf d later)
 
 abbrev pub unchanged : LossAnswer → LossSession → Updated

@@ -21,15 +21,15 @@ refused n = record { refusal = n; near = pos 0; far = pos 0 }
 abbrev pub results : ℤ → ℤ → LossTold
 results n f = record { refusal = 0; near = n; far = f }
 
-unfoldable pub told : LossAnswer → LossTold
-told NotWellFormed = refused 2
-told Full = refused 5
-told First = results (pos 0) (pos 0)
-told (Measured n f) = results n f
+unfoldable pub lossTold : LossAnswer → LossTold
+lossTold NotWellFormed = refused 2
+lossTold Full = refused 5
+lossTold First = results (pos 0) (pos 0)
+lossTold (Measured n f) = results n f
 
 -- what one more reading is told, in the paper's numbers alone
-unfoldable pub numbersOf : LossSession → Readings → LossTold
-numbersOf s r =
+unfoldable pub lossNumbers : LossSession → Readings → LossTold
+lossNumbers s r =
     choose (
     (not (wellFormed s), refused 2)
     ∷ (eqb (s .kept) 0, results (pos 0) (pos 0))
@@ -39,4 +39,4 @@ numbersOf s r =
 
 -- beside a refusal every other value is 0
 pub record LossNumbers : Type 0 where
-  pub zeros : (a : LossAnswer) → ((told a .refusal ≡ 0) → ⊥) → (told a .near ≡ pos 0) × (told a .far ≡ pos 0)
+  pub zeros : (a : LossAnswer) → ((lossTold a .refusal ≡ 0) → ⊥) → (lossTold a .near ≡ pos 0) × (lossTold a .far ≡ pos 0)

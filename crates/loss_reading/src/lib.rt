@@ -1,6 +1,6 @@
 // What one more reading makes of a loss session, and what it is answered, in cases and in the paper's numbers. Rule 7 of the paper.
 ghost use mathlib.Core.Path.{_≡_};
-ghost use Rattle.loss_reading.specs.Told.{told};
+ghost use Rattle.loss_reading.specs.Told.{lossTold};
 use loss_session::LossSession;
 
 // What one more reading is answered.
@@ -31,7 +31,7 @@ pub struct LossTold {
 
 // An answer in the paper's numbers.
 pub fn tell(a: LossAnswer) -> LossTold
-    ensures { λ r. ⌜ r ≡ told a ⌝ }
+    ensures { λ r. ⌜ r ≡ lossTold a ⌝ }
 {
     match a {
         LossAnswer::NotWellFormed => LossTold {

@@ -12,19 +12,19 @@ abbrev pub readings : ℕ → ℕ → ℕ → ℕ → Readings
 readings txf rxf txb ours = record { txf = txf; rxf = rxf; txb = txb; ours = ours }
 
 -- the two sides of a link: what the peer sent and we received, and what we sent and the peer received
-pub data Side : Type 0 where
-  near : Side
-  far : Side
+pub data LossEnd : Type 0 where
+  near : LossEnd
+  far : LossEnd
 
-abbrev pub sentOf : Side → Readings → ℕ
+abbrev pub sentOf : LossEnd → Readings → ℕ
 sentOf near r = r .txb
 sentOf far r = r .txf
 
-abbrev pub receivedOf : Side → Readings → ℕ
+abbrev pub receivedOf : LossEnd → Readings → ℕ
 receivedOf near r = r .ours
 receivedOf far r = r .rxf
 
-abbrev pub totalOf : Side → LossSession → ℤ
+abbrev pub totalOf : LossEnd → LossSession → ℤ
 totalOf near s = s .near
 totalOf far s = s .far
 
@@ -49,7 +49,7 @@ pub record WellFormed (s : LossSession) : Type 0 where
   pub flag : s .kept ≤ 1
   pub few : s .intervals ≤ mostIntervals
   pub nothing : s .kept ≡ 0 → (s .intervals ≡ 0) × (s .last ≡ noReadings)
-  pub total : (d : Side) → natAbs (totalOf d s) ≤ s .intervals * 4294967295
+  pub total : (d : LossEnd) → natAbs (totalOf d s) ≤ s .intervals * 4294967295
 
 abbrev pub allZero : Readings → Bool
 allZero r = eqb (r .txf) 0 && eqb (r .rxf) 0 && eqb (r .txb) 0 && eqb (r .ours) 0

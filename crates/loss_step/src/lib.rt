@@ -6,7 +6,7 @@ ghost use mir.Syntax.{w64};
 ghost use mir.Val.{SFits};
 ghost use Rattle.loss_session.specs.Session.{WellFormed, mostIntervals};
 ghost use Rattle.loss_reading.specs.Reading.{measuredOf, afterReading};
-ghost use Rattle.loss_reading.specs.Told.{told, numbersOf};
+ghost use Rattle.loss_reading.specs.Told.{lossTold, lossNumbers};
 use loss_growth::loss_between;
 use loss_reading::LossAnswer;
 use loss_reading::Updated;
@@ -45,7 +45,7 @@ fn measured(s: LossSession, r: Readings) -> Updated
 
 // One more reading: refused, kept as the first, or the end of an interval.
 pub fn take_reading(s: LossSession, r: Readings) -> Updated
-    ensures { λ u. ⌜ (u ≡ afterReading s r) × (told (u .answer) ≡ numbersOf s r) ⌝ }
+    ensures { λ u. ⌜ (u ≡ afterReading s r) × (lossTold (u .answer) ≡ lossNumbers s r) ⌝ }
 {
     if !well_formed(s) {
         return Updated {

@@ -33,7 +33,8 @@ lengths = record { ccm = ccm-long }
 
 -- ── piece by piece ──
 
-pub fixed-laid : (meg : List ℕ) (c : CcmValues) (mep : ℕ) (l : List ℕ) {x y z u v w r : List ℕ} → length meg ≡ 48 → 89 ≤ length l → mep ≡ mepId (c .mep)
+pub fixed-laid : (meg : List ℕ) (c : CcmValues) (mep : ℕ) (l : List ℕ) {x y z u v w r : List ℕ} → length meg ≡ 48 → 89 ≤ length l
+    → mep ≡ mepId (c .mep)
     → x ≡ laid 18 (count (c .sequence)) l
     → y ≡ laid 22 (inOctets bigEndian 2 mep) x
     → z ≡ laid 24 meg y
@@ -53,7 +54,8 @@ fixed-laid meg c mep l hm h em e1 e2 e3 e4 e5 e6 e7 =
     let p7 = more 5 (inOctets bigEndian 5 0) p6 e7 (length-octets bigEndian 5 0) (omega arith) in
     p7 .is ∙ rw (em, zeros 5)
 
-pub ccm-laid : (source meg : List ℕ) (c : CcmValues) (head flags : ℕ) (l : List ℕ) {x y r : List ℕ} → length source ≡ 6 → length meg ≡ 48 → 89 ≤ length l
+pub ccm-laid : (source meg : List ℕ) (c : CcmValues) (head flags : ℕ) (l : List ℕ) {x y r : List ℕ} → length source ≡ 6 → length meg ≡ 48
+    → 89 ≤ length l
     → head ≡ firstOctet (c .level) 0 → flags ≡ ccmFlags (c .rdi) (c .period)
     → x ≡ laid 0 (multicastOf (c .level)) l → y ≡ laid 6 (afterDestination source head 1 flags 70) x → r ≡ laid 18 (ccmFixed meg c) y
     → r ≡ laid 0 (ccmOctets source meg c) l

@@ -5,7 +5,7 @@ ghost use Prim.Native.Nat.{_≤_};
 ghost use lib.ListN.{length};
 ghost use Rattle.base_laws.specs.Lists.{part, laid};
 ghost use Rattle.frame_head.specs.Head.{behindHead};
-ghost use Rattle.message_parts.specs.Buffer.{writtenOf, bufferOf, told, numbersOf};
+ghost use Rattle.message_parts.specs.Buffer.{writtenOf, bufferOf, writtenTold, writtenNumbers};
 ghost use Rattle.message_ccm.specs.Continuity.{ccmFixed, ccmNamed, ccmLength};
 use base_bits::ccm_flags;
 use base_bits::first_octet;
@@ -57,7 +57,7 @@ fn write_ccm_fixed(into: &mut [u8], meg: &[u8], ccm: CcmValues)
 // Writes a CCM to the multicast address of its level, with our own address and MEG ID.
 pub fn write_ccm(into: &mut [u8], names: &Names, ccm: CcmValues) -> Written
     ensures { λ r. ⌜ (r ≡ writtenOf (ccmNamed (now (names .entry)) ccm) (now (into .entry)))
-        × (told r ≡ numbersOf (ccmNamed (now (names .entry)) ccm) (now (into .entry))) ⌝ }
+        × (writtenTold r ≡ writtenNumbers (ccmNamed (now (names .entry)) ccm) (now (into .entry))) ⌝ }
     ensures { λ _. ⌜ (now (into .exit) ≡ bufferOf (ccmNamed (now (names .entry)) ccm) (now (into .entry)))
         × (length (ccmNamed (now (names .entry)) ccm) ≡ ccmLength) ⌝ }
 {

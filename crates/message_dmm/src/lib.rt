@@ -2,7 +2,7 @@
 // It is made of what is given and of no state, and asks nothing of its caller.
 ghost use mathlib.Core.Path.{_≡_};
 ghost use lib.ListN.{length};
-ghost use Rattle.message_parts.specs.Buffer.{writtenOf, bufferOf, told, numbersOf};
+ghost use Rattle.message_parts.specs.Buffer.{writtenOf, bufferOf, writtenTold, writtenNumbers};
 ghost use Rattle.message_requests.specs.Requests.{dmmNamed, dmmLength};
 use base_bits::first_octet;
 use base_numbers::write_big;
@@ -22,7 +22,7 @@ const DMM_LENGTH: usize = 51;
 // Writes a DMM, version 1, with the caller's stamp.
 pub fn write_dmm(into: &mut [u8], names: &Names, level: u32, stamp: Stamp) -> Written
     ensures { λ r. ⌜ (r ≡ writtenOf (dmmNamed (now (names .entry)) level stamp) (now (into .entry)))
-        × (told r ≡ numbersOf (dmmNamed (now (names .entry)) level stamp) (now (into .entry))) ⌝ }
+        × (writtenTold r ≡ writtenNumbers (dmmNamed (now (names .entry)) level stamp) (now (into .entry))) ⌝ }
     ensures { λ _. ⌜ (now (into .exit) ≡ bufferOf (dmmNamed (now (names .entry)) level stamp) (now (into .entry)))
         × (length (dmmNamed (now (names .entry)) level stamp) ≡ dmmLength) ⌝ }
 {

@@ -1,9 +1,7 @@
 -- A delay reply: the reply, and two stamps laid inside it. Assumes nothing.
-use Prim.Native.Nat.{ℕ, _≤_}
-use mathlib.Core.Path.{_≡_}
+use Prim.Native.Nat.{ℕ}
 use mathlib.Core.List.{List, [], _∷_}
 use native.Mathlib.Omega.{arith}
-use lib.ListN.{length}
 use Rattle.base_stamp.specs.declared.Stamp.{Stamp}
 use Rattle.message_parts.specs.Messages.{stampOctets}
 use Rattle.message_parts.proofs.Laid.{stamp-long}

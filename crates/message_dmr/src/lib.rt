@@ -1,6 +1,6 @@
 // The delay reply (DMR): the reply with opcode 46 and the two stamps, given or not. Asks nothing of its caller.
 ghost use mathlib.Core.Path.{_≡_};
-ghost use Rattle.message_reply.specs.Replied.{repliedOf, leftOf, told, numbersOf};
+ghost use Rattle.message_reply.specs.Replied.{repliedOf, leftOf, repliedTold, repliedNumbers};
 ghost use Rattle.message_dmr.specs.Dmr.{dmrOctets};
 use base_stamp::Stamp;
 use frame_head::HEAD_LENGTH;
@@ -25,7 +25,7 @@ pub fn write_dmr(
     transmit: Stamp,
 ) -> Replied
     ensures { λ r. ⌜ (r ≡ repliedOf 32 (now (request .entry)) (dmrOctets own receive transmit (now (request .entry))) (now (into .entry)))
-        × (told r ≡ numbersOf 32 (now (request .entry)) (dmrOctets own receive transmit (now (request .entry))) (now (into .entry))) ⌝ }
+        × (repliedTold r ≡ repliedNumbers 32 (now (request .entry)) (dmrOctets own receive transmit (now (request .entry))) (now (into .entry))) ⌝ }
     ensures { λ _. ⌜ now (into .exit) ≡
         leftOf 32 (now (request .entry)) (dmrOctets own receive transmit (now (request .entry))) (now (into .entry)) ⌝ }
 {

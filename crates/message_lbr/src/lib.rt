@@ -1,6 +1,6 @@
 // The loopback reply (LBR): the request with its source as destination, our address as source, and opcode 2. Asks nothing of its caller.
 ghost use mathlib.Core.Path.{_≡_};
-ghost use Rattle.message_reply.specs.Replied.{repliedOf, leftOf, told, numbersOf};
+ghost use Rattle.message_reply.specs.Replied.{repliedOf, leftOf, repliedTold, repliedNumbers};
 ghost use Rattle.message_lbr.specs.Lbr.{lbrOctets};
 use frame_head::HEAD_LENGTH;
 use message_reply::Replied;
@@ -12,7 +12,7 @@ const LBM_FIXED: usize = HEAD_LENGTH + 8;
 // Writes the reply to a loopback request.
 pub fn write_lbr(into: &mut [u8], request: &[u8], own: [u8; 6]) -> Replied
     ensures { λ r. ⌜ (r ≡ repliedOf 4 (now (request .entry)) (lbrOctets own (now (request .entry))) (now (into .entry)))
-        × (told r ≡ numbersOf 4 (now (request .entry)) (lbrOctets own (now (request .entry))) (now (into .entry))) ⌝ }
+        × (repliedTold r ≡ repliedNumbers 4 (now (request .entry)) (lbrOctets own (now (request .entry))) (now (into .entry))) ⌝ }
     ensures { λ _. ⌜ now (into .exit) ≡ leftOf 4 (now (request .entry)) (lbrOctets own (now (request .entry))) (now (into .entry)) ⌝ }
 {
     if request.len() < LBM_FIXED {

@@ -2,7 +2,7 @@
 // It is made of what is given and of no state, and asks nothing of its caller.
 ghost use mathlib.Core.Path.{_≡_};
 ghost use lib.ListN.{length};
-ghost use Rattle.message_parts.specs.Buffer.{writtenOf, bufferOf, told, numbersOf};
+ghost use Rattle.message_parts.specs.Buffer.{writtenOf, bufferOf, writtenTold, writtenNumbers};
 ghost use Rattle.message_requests.specs.Requests.{lmmNamed, lmmLength};
 use base_bits::first_octet;
 use base_numbers::write_big;
@@ -20,7 +20,7 @@ const LMM_LENGTH: usize = 31;
 // Writes an LMM, version 1, with our sent count.
 pub fn write_lmm(into: &mut [u8], names: &Names, level: u32, sent: u32) -> Written
     ensures { λ r. ⌜ (r ≡ writtenOf (lmmNamed (now (names .entry)) level sent) (now (into .entry)))
-        × (told r ≡ numbersOf (lmmNamed (now (names .entry)) level sent) (now (into .entry))) ⌝ }
+        × (writtenTold r ≡ writtenNumbers (lmmNamed (now (names .entry)) level sent) (now (into .entry))) ⌝ }
     ensures { λ _. ⌜ (now (into .exit) ≡ bufferOf (lmmNamed (now (names .entry)) level sent) (now (into .entry)))
         × (length (lmmNamed (now (names .entry)) level sent) ≡ lmmLength) ⌝ }
 {

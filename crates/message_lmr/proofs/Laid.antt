@@ -1,9 +1,7 @@
 -- A loss reply: the reply, and two counts laid inside it. Assumes nothing.
-use Prim.Native.Nat.{ℕ, _≤_}
-use mathlib.Core.Path.{_≡_}
+use Prim.Native.Nat.{ℕ}
 use mathlib.Core.List.{List, [], _∷_}
 use native.Mathlib.Omega.{arith}
-use lib.ListN.{length}
 use Rattle.message_parts.specs.Messages.{count}
 use Rattle.message_parts.proofs.Laid.{count-long}
 use Rattle.message_reply.proofs.Laid.{over, Within}

@@ -4,5 +4,6 @@ use mathlib.Core.Path.{_≡_, sym, _∙_}
 use denote.Ref.{now}
 use Rattle.message_lmr.proofs.write_lmr.Reads as write-lmr
 
-pub write-lmr-one : (κs : _) (a : _) (r r′ : _) (s s′ : _) → write-lmr.Post κs a r s → write-lmr.Post κs a r′ s′ → (r ≡ r′) × (now (s .0) ≡ now (s′ .0))
+pub write-lmr-one : (κs : _) (a : _) (r r′ : _) (s s′ : _) → write-lmr.Post κs a r s → write-lmr.Post κs a r′ s′ → (r ≡ r′)
+    × (now (s .0) ≡ now (s′ .0))
 write-lmr-one κs a r r′ s s′ p q = (p .0 .0 ∙ sym (q .0 .0), p .1 ∙ sym (q .1))

@@ -1,6 +1,6 @@
 // The loss reply (LMR): the reply with opcode 42, our received count in RxFCf, our sent count in TxFCb. Asks nothing of its caller.
 ghost use mathlib.Core.Path.{_≡_};
-ghost use Rattle.message_reply.specs.Replied.{repliedOf, leftOf, told, numbersOf};
+ghost use Rattle.message_reply.specs.Replied.{repliedOf, leftOf, repliedTold, repliedNumbers};
 ghost use Rattle.message_lmr.specs.Lmr.{lmrOctets};
 use base_numbers::write_big;
 use frame_head::HEAD_LENGTH;
@@ -18,7 +18,7 @@ const LMM_FIXED: usize = HEAD_LENGTH + 16;
 // Writes the reply to a loss request: our received count in RxFCf, our sent count in TxFCb.
 pub fn write_lmr(into: &mut [u8], request: &[u8], own: [u8; 6], received: u32, sent: u32) -> Replied
     ensures { λ r. ⌜ (r ≡ repliedOf 12 (now (request .entry)) (lmrOctets own received sent (now (request .entry))) (now (into .entry)))
-        × (told r ≡ numbersOf 12 (now (request .entry)) (lmrOctets own received sent (now (request .entry))) (now (into .entry))) ⌝ }
+        × (repliedTold r ≡ repliedNumbers 12 (now (request .entry)) (lmrOctets own received sent (now (request .entry))) (now (into .entry))) ⌝ }
     ensures { λ _. ⌜ now (into .exit) ≡
         leftOf 12 (now (request .entry)) (lmrOctets own received sent (now (request .entry))) (now (into .entry)) ⌝ }
 {

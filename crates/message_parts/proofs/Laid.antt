@@ -1,5 +1,5 @@
 -- A message laid over the buffer piece by piece, each right behind the one before it. Assumes nothing.
-use Prim.Native.Nat.{ℕ, zero, suc, _+_, _%_, _^_, _≤_, _<_}
+use Prim.Native.Nat.{ℕ, zero, suc, _+_, _%_, _^_, _≤_}
 use mathlib.Core.Path.{_≡_, refl, sym, ap, _∙_}
 use mathlib.Core.List.{List, [], _∷_, _++_, append-assoc}
 use native.Mathlib.Nat.{zero-div}
@@ -21,7 +21,8 @@ count-long v = length-octets bigEndian 4 v
 pub stamp-long : (s : Stamp) → length (stampOctets s) ≡ 8
 stamp-long s = simp (length-append, length-octets)
 
-pub after-long : (source : List ℕ) (first opcode flags offset : ℕ) → length source ≡ 6 → length (afterDestination source first opcode flags offset) ≡ 12
+pub after-long : (source : List ℕ) (first opcode flags offset : ℕ) → length source ≡ 6
+    → length (afterDestination source first opcode flags offset) ≡ 12
 unfolding afterDestination
 after-long source first opcode flags offset h = simp (length-append, length-octets) (omega arith)
 

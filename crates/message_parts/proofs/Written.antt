@@ -11,17 +11,17 @@ use Rattle.base_laws.specs.Lists.{laid}
 use Rattle.base_laws.proofs.Tests.{known}
 use Rattle.message_parts.specs.declared.parts.Written.{Written}
 use Rattle.message_parts.specs.declared.parts.Written.the-variants.{NoRoom, Octets}
-use Rattle.message_parts.specs.Buffer.{noRoom, writtenOf, bufferOf, told}
+use Rattle.message_parts.specs.Buffer.{noRoom, writtenOf, bufferOf, writtenTold}
 
 -- the two answers are apart
 differ : {k : ℕ} → NoRoom ≡ Octets k → ⊥
-unfolding told
-differ e = eqb-false 3 0 refl (ap (λ (w : Written). told w .refusal) e)
+unfolding writtenTold
+differ e = eqb-false 3 0 refl (ap (λ (w : Written). writtenTold w .refusal) e)
 
 -- and so are two lengths
 as-long : {k l : ℕ} → Octets k ≡ Octets l → k ≡ l
-unfolding told
-as-long e = ap (λ (w : Written). told w .length) e
+unfolding writtenTold
+as-long e = ap (λ (w : Written). writtenTold w .length) e
 
 module _ (message buffer : List ℕ) (n : ℕ) (long : length message ≡ n) {written : Written} {after : List ℕ}
     (e : written ≡ writtenOf message buffer) (f : after ≡ bufferOf message buffer) where

@@ -24,17 +24,17 @@ bufferOf message buffer = cond (noRoom message buffer) buffer (laid 0 message bu
 
 -- ── in the paper's numbers ──
 
-abbrev pub numbers : ℕ → ℕ → WrittenTold
-numbers refusal length = record { refusal = refusal; length = length }
+abbrev pub tellWritten : ℕ → ℕ → WrittenTold
+tellWritten refusal length = record { refusal = refusal; length = length }
 
-unfoldable pub told : Written → WrittenTold
-told NoRoom = numbers 3 0
-told (Octets n) = numbers 0 n
+unfoldable pub writtenTold : Written → WrittenTold
+writtenTold NoRoom = tellWritten 3 0
+writtenTold (Octets n) = tellWritten 0 n
 
-abbrev pub numbersOf : List ℕ → List ℕ → WrittenTold
-numbersOf message buffer = cond (noRoom message buffer) (numbers 3 0) (numbers 0 (length message))
+abbrev pub writtenNumbers : List ℕ → List ℕ → WrittenTold
+writtenNumbers message buffer = cond (noRoom message buffer) (tellWritten 3 0) (tellWritten 0 (length message))
 
 -- an answer is told as the paper numbers it, and no two answers are told alike
 pub record WrittenNumbers : Type 0 where
-  pub agree : (message buffer : List ℕ) → told (writtenOf message buffer) ≡ numbersOf message buffer
-  pub apart : (a b : Written) → told a ≡ told b → a ≡ b
+  pub agree : (message buffer : List ℕ) → writtenTold (writtenOf message buffer) ≡ writtenNumbers message buffer
+  pub apart : (a b : Written) → writtenTold a ≡ writtenTold b → a ≡ b

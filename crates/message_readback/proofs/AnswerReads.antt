@@ -20,7 +20,8 @@ use Rattle.message_readback.specs.Replies.{Answers}
 use Rattle.message_readback.proofs.Kept.{Head}
 
 -- the frame f answers the request with opcode op; both opcodes have fixed parts of n octets, behind which f is as the request
-module _ (own request f : List ℕ) (op n : ℕ) (g : Good request) (asked : ruleOf (opcodeOf (pduOf request)) .least ≡ n) (w : Head own request op f)
+module _ (own request f : List ℕ) (op n : ℕ) (g : Good request) (asked : ruleOf (opcodeOf (pduOf request)) .least ≡ n)
+    (w : Head own request op f)
     (k : ruleOf op .known ≡ true) (same : ruleOf op .least ≡ n) (free : (code : ℕ) → codeGood (ruleOf op) code ≡ true)
     (tail : (at : ℕ) → 18 + n ≤ at → drop at f ≡ drop at request) where
   octet : (i : ℕ) → getD f (14 + i) 0 ≡ getD request (14 + i) 0 → getD (pduOf f) i 0 ≡ getD (pduOf request) i 0

@@ -27,7 +27,8 @@ use Rattle.message_readback.specs.Sent.{CcmGiven, CcmBack}
 use Rattle.message_readback.proofs.WordsRead.{behind-four, counted}
 use Rattle.message_readback.proofs.Framed.{Made, sent-reads}
 
-ccm-in : (p : List ℕ) {a b c d e f g : ℕ} → word 4 p ≡ a → mepId (number bigEndian (part 8 2 p)) ≡ b → word 58 p ≡ c → word 62 p ≡ d → word 66 p ≡ e
+ccm-in : (p : List ℕ) {a b c d e f g : ℕ} → word 4 p ≡ a → mepId (number bigEndian (part 8 2 p)) ≡ b → word 58 p ≡ c → word 62 p ≡ d
+    → word 66 p ≡ e
     → periodCode (flagsOf p) ≡ f → flagsOf p / 128 ≡ g
     → ccmIn p ≡ record { sequence = a; mep = b; txfcf = c; rxfcb = d; txfcb = e; period = f; rdi = g }
 ccm-in p h i j k l m n = cc
@@ -44,7 +45,8 @@ record Placed (q i g a b c z all : List ℕ) : Type 0 where
   long : length all ≡ 66 + length z
 
 -- each stands where those before it end
-module _ (q i g a b c z : List ℕ) (hq : length q ≡ 4) (hi : length i ≡ 2) (hg : length g ≡ 48) (ha : length a ≡ 4) (hb : length b ≡ 4) (hc : length c ≡ 4) where
+module _ (q i g a b c z : List ℕ) (hq : length q ≡ 4) (hi : length i ≡ 2) (hg : length g ≡ 48) (ha : length a ≡ 4) (hb : length b ≡ 4)
+    (hc : length c ≡ 4) where
   abbrev all : List ℕ
   all = q ++ i ++ g ++ a ++ b ++ c ++ z
 
@@ -82,7 +84,8 @@ module _ (source meg : List ℕ) (c : CcmValues) (w : CcmGiven source meg c) whe
   fields : Placed (count (c .sequence)) mep meg (count (c .txfcf)) (count (c .rxfcb)) (count (c .txfcb)) (replicate 5 0) rest
   fields =
       placed (count (c .sequence)) mep meg (count (c .txfcf)) (count (c .rxfcb)) (count (c .txfcb)) (replicate 5 0)
-      (count-long (c .sequence)) (length-octets bigEndian 2 (mepId (c .mep))) (w .named) (count-long (c .txfcf)) (count-long (c .rxfcb)) (count-long (c .txfcb))
+      (count-long (c .sequence)) (length-octets bigEndian 2 (mepId (c .mep))) (w .named) (count-long (c .txfcf)) (count-long (c .rxfcb))
+      (count-long (c .txfcb))
 
   code : periodCode flags ≡ c .period
   code = omega (arith, w .period)
@@ -100,13 +103,22 @@ module _ (source meg : List ℕ) (c : CcmValues) (w : CcmGiven source meg c) whe
     g = ap not (ne-eqb (periodCode flags) 0 (λ e. omega (arith, code, w .some)));
   }
 
-  ccm-fields : ccmIn pdu ≡ record { sequence = c .sequence; mep = c .mep; txfcf = c .txfcf; rxfcb = c .rxfcb; txfcb = c .txfcb; period = c .period; rdi = c .rdi }
+  ccm-fields : ccmIn pdu ≡ record {
+    sequence = c .sequence;
+    mep = c .mep;
+    txfcf = c .txfcf;
+    rxfcb = c .rxfcb;
+    txfcb = c .txfcb;
+    period = c .period;
+    rdi = c .rdi;
+  }
   ccm-fields =
       let at : (k n : ℕ) → part (4 + k) n pdu ≡ part k n rest = behind-four first 1 flags 70 rest in
       let low : mepId (c .mep) ≡ c .mep = omega (arith, w .mep) in
       ccm-in pdu
       (ap (number bigEndian) (at 0 4 ∙ fields .sequence) ∙ counted (c .sequence) (w .sequence))
-      (ap (λ (xs : List ℕ). mepId (number bigEndian xs)) (at 4 2 ∙ fields .mep) ∙ ap mepId (number-back bigEndian 2 (mepId (c .mep)) (omega arith) ∙ low) ∙ low)
+      (ap (λ (xs : List ℕ). mepId (number bigEndian xs)) (at 4 2 ∙ fields .mep)
+      ∙ ap mepId (number-back bigEndian 2 (mepId (c .mep)) (omega arith) ∙ low) ∙ low)
       (ap (number bigEndian) (at 54 4 ∙ fields .txfcf) ∙ counted (c .txfcf) (w .txfcf))
       (ap (number bigEndian) (at 58 4 ∙ fields .rxfcb) ∙ counted (c .rxfcb) (w .rxfcb))
       (ap (number bigEndian) (at 62 4 ∙ fields .txfcb) ∙ counted (c .txfcb) (w .txfcb))

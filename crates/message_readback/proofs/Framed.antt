@@ -58,7 +58,8 @@ unfolding inOctets octetsLowestFirst
 oam = refl
 
 -- a message as it is laid out is such a frame
-shape : (d s rest : List ℕ) (first op flags offset : ℕ) → d ++ afterDestination s first op flags offset ++ rest ≡ framed (d ++ s) (first ∷ op ∷ flags ∷ offset ∷ rest)
+shape : (d s rest : List ℕ) (first op flags offset : ℕ)
+    → d ++ afterDestination s first op flags offset ++ rest ≡ framed (d ++ s) (first ∷ op ∷ flags ∷ offset ∷ rest)
 unfolding afterDestination
 shape d s rest first op flags offset = rw oam (simp append-assoc)
 
@@ -86,7 +87,9 @@ module _ (destination source rest : List ℕ) (first op flags offset : ℕ) (w :
   is = pdu-is (destination ++ source) pdu (both destination source pdu (w .d) (w .s))
 
   fine : Headed f
-  fine = headed (destination ++ source) rest first op flags offset (both destination source pdu (w .d) (w .s)) (w .k) (w .o) (omega (arith, w .l, w .m))
+  fine =
+      headed (destination ++ source) rest first op flags offset (both destination source pdu (w .d) (w .s)) (w .k) (w .o)
+      (omega (arith, w .l, w .m))
 
   -- the walk ends where it begins, whatever is asked for
   walked : (kind : ℕ) → walkFrom kind (startOf (pduOf f)) (pduOf f) ≡ End (4 + offset)

@@ -71,7 +71,8 @@ module _ (own request : List ℕ) (op : ℕ) (o : length own ≡ 6) (l : 18 ≤ 
         ∙ part-after 0 6 own a0 fit6 12 2 (omega arith)
         ∙ part-after 0 0 (sourceOf request) request fit0 12 2 (omega (arith, size));
     first = laid-others 15 (op ∷ []) a6 fit15 0 14 (inl (omega arith)) ∙ octet6 14 (omega arith);
-    code = sym (getD-part 15 1 (laid 15 (op ∷ []) a6) 0 0 (omega arith)) ∙ ap (λ (xs : List ℕ). getD xs 0 0) (laid-back 15 (op ∷ []) a6 fit15);
+    code = sym (getD-part 15 1 (laid 15 (op ∷ []) a6) 0 0 (omega arith))
+        ∙ ap (λ (xs : List ℕ). getD xs 0 0) (laid-back 15 (op ∷ []) a6 fit15);
     flags = laid-others 15 (op ∷ []) a6 fit15 0 16 (inr (omega arith)) ∙ octet6 16 (omega arith);
     offset = laid-others 15 (op ∷ []) a6 fit15 0 17 (inr (omega arith)) ∙ octet6 17 (omega arith);
   }
@@ -85,7 +86,8 @@ module _ (own request : List ℕ) (op : ℕ) (o : length own ≡ 6) (l : 18 ≤ 
       ∙ drop-after 0 0 (sourceOf request) request fit0 k (omega (arith, size))
 
 -- what is laid over the fixed part leaves the head
-pub over : {own request : List ℕ} {op : ℕ} (at : ℕ) (xs f : List ℕ) → 18 ≤ at → at + length xs ≤ length f → Head own request op f → Head own request op (laid at xs f)
+pub over : {own request : List ℕ} {op : ℕ} (at : ℕ) (xs f : List ℕ) → 18 ≤ at → at + length xs ≤ length f → Head own request op f
+    → Head own request op (laid at xs f)
 over at xs f h fits w = record {
   long = length-laid at xs f fits ∙ w .long;
   to = part-before 0 at xs f fits 0 6 (omega arith) ∙ w .to;

@@ -56,12 +56,14 @@ module _ (own request : List ℕ) (o : length own ≡ 6) (e : messageOf request 
       let kept : word 4 (pduOf f) ≡ word 4 (pduOf request) =
       ap (number bigEndian) (in-pdu 4 4 f ∙ alike 18 0 4 f request (lbr-tail 18 (omega arith)) ∙ sym (in-pdu 4 4 request)) in (
         answers own request f 2 4 (q .good) (q .least) lbr-head refl refl (λ c. refl) tail,
-        ap₂ (λ (o w : ℕ). cond (eqb o 3 || eqb o 2) w 0) op kept ∙ sym (ap (λ (o : ℕ). cond (eqb o 3 || eqb o 2) (word 4 (pduOf request)) 0) (q .told-is)),
+        ap₂ (λ (o w : ℕ). cond (eqb o 3 || eqb o 2) w 0) op kept
+            ∙ sym (ap (λ (o : ℕ). cond (eqb o 3 || eqb o 2) (word 4 (pduOf request)) 0) (q .told-is)),
       )
 
 -- ── LMR ──
 
-module _ (own request : List ℕ) (received sent : ℕ) (o : length own ≡ 6) (hr : Word received) (hs : Word sent) (e : messageOf request ≡ Message 43) where
+module _ (own request : List ℕ) (received sent : ℕ) (o : length own ≡ 6) (hr : Word received) (hs : Word sent)
+    (e : messageOf request ≡ Message 43) where
   lmr : Answers own request 42 (lmrOctets own received sent request)
       × (lossOf (lmrOctets own received sent request) ≡ record { txfcf = lossOf request .txfcf; rxfcf = received; txfcb = sent })
   unfolding lmrOctets lossOf ruleOf choose
@@ -83,9 +85,11 @@ module _ (own request : List ℕ) (received sent : ℕ) (o : length own ≡ 6) (
 
 -- ── DMR ──
 
-module _ (own request : List ℕ) (receive transmit : Stamp) (o : length own ≡ 6) (hr : Wire receive) (ht : Wire transmit) (e : messageOf request ≡ Message 47) where
+module _ (own request : List ℕ) (receive transmit : Stamp) (o : length own ≡ 6) (hr : Wire receive) (ht : Wire transmit)
+    (e : messageOf request ≡ Message 47) where
   dmr : Answers own request 46 (dmrOctets own receive transmit request)
-      × (delayOf (dmrOctets own receive transmit request) ≡ record { txtimestampf = delayOf request .txtimestampf; rxtimestampf = receive; txtimestampb = transmit })
+      × (delayOf (dmrOctets own receive transmit request)
+      ≡ record { txtimestampf = delayOf request .txtimestampf; rxtimestampf = receive; txtimestampb = transmit })
       × (part 28 8 (pduOf (dmrOctets own receive transmit request)) ≡ part 28 8 (pduOf request))
   unfolding dmrOctets delayOf ruleOf choose
   dmr =

@@ -10,7 +10,7 @@ use Rattle.frame_message_answer.specs.declared.MessageAnswer.the-variants.{Mess
 use Rattle.frame_message_answer.specs.declared.MessageTold.{MessageTold}
 use Rattle.frame_message.specs.Good.{Good}
 use Rattle.frame_message.specs.Message.{messageOf}
-use Rattle.frame_message_answer.specs.Told.{told}
+use Rattle.frame_message_answer.specs.Told.{messageTold}
 use Rattle.frame_message.specs.Told.{goodOpcode}
 use Rattle.frame_message.proofs.Goods.{good-frames}
 use Rattle.frame_message.proofs.Numbers.{agree, only}
@@ -23,9 +23,9 @@ pub record Request (f : List ℕ) (k n : ℕ) : Type 0 where
   pub long : 18 + n < length f
 
 pub requested : (f : List ℕ) (k n : ℕ) → messageOf f ≡ Message k → 0 < k → ruleOf k .least ≡ n → Request f k n
-unfolding told
+unfolding messageTold
 requested f k n e p l =
-    let t : goodOpcode f ≡ k = ap (λ (t : MessageTold). t .opcode) (sym (agree f) ∙ ap told e) in
+    let t : goodOpcode f ≡ k = ap (λ (t : MessageTold). t .opcode) (sym (agree f) ∙ ap messageTold e) in
     let m = only f (λ z. let y : k ≡ 0 = sym t ∙ z in omega arith) in
     let o : ruleOf (opcodeOf (pduOf f)) .least ≡ n = ap (λ (op : ℕ). ruleOf op .least) (sym (m .1) ∙ t) ∙ l in
     record { told-is = t; good = m .0; least = o; long = omega (arith, o, good-frames .fixed f (m .0), length-drop 14 f) }

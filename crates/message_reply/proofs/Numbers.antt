@@ -13,20 +13,22 @@ use Rattle.base_laws.proofs.Tests.{choose-map}
 use Rattle.message_parts.specs.Buffer.{noRoom}
 use Rattle.message_reply.specs.declared.Replied.{Replied}
 use Rattle.message_reply.specs.declared.Replied.the-variants.{CutOff, NoRoom, Octets}
-use Rattle.message_reply.specs.Replied.{cutOff, repliedOf, leftOf, RepliedTold, told, numbersOf, RepliedNumbers}
+use Rattle.message_reply.specs.Replied.{cutOff, repliedOf, leftOf, RepliedTold, repliedTold, repliedNumbers, RepliedNumbers}
 
 -- ── numbers ──
 
-agree : (fixed : ℕ) (request reply buffer : List ℕ) → told (repliedOf fixed request reply buffer) ≡ numbersOf fixed request reply buffer
-unfolding told
-agree fixed request reply buffer = choose-map told ((cutOff fixed request, CutOff) ∷ (noRoom reply buffer, NoRoom) ∷ []) (Octets (length reply))
+agree : (fixed : ℕ) (request reply buffer : List ℕ)
+    → repliedTold (repliedOf fixed request reply buffer) ≡ repliedNumbers fixed request reply buffer
+unfolding repliedTold
+agree fixed request reply buffer =
+    choose-map repliedTold ((cutOff fixed request, CutOff) ∷ (noRoom reply buffer, NoRoom) ∷ []) (Octets (length reply))
 
 -- the answer that is meant by its numbers
 back : RepliedTold → Replied
 back t = cond (eqb (t .drop) 5) CutOff (cond (eqb (t .refusal) 3) NoRoom (Octets (t .length)))
 
-back-told : (a : Replied) → back (told a) ≡ a
-unfolding back told
+back-told : (a : Replied) → back (repliedTold a) ≡ a
+unfolding back repliedTold
 back-told CutOff = refl
 back-told NoRoom = refl
 back-told (Octets n) = refl
@@ -38,7 +40,8 @@ replied-numbers = record { agree = agree; apart = λ a b e. sym (back-told a) �
 
 -- r is the answer of the definition and of the numbers, and x the buffer's content
 abbrev pub Answered : ℕ → List ℕ → List ℕ → List ℕ → Replied → List ℕ → Type 0
-Answered fixed request reply l r x = ((r ≡ repliedOf fixed request reply l) × (told r ≡ numbersOf fixed request reply l)) × (x ≡ leftOf fixed request reply l)
+Answered fixed request reply l r x =
+    ((r ≡ repliedOf fixed request reply l) × (repliedTold r ≡ repliedNumbers fixed request reply l)) × (x ≡ leftOf fixed request reply l)
 
 module _ (fixed : ℕ) (request reply l : List ℕ) where
   -- two tests, and what they lead to
@@ -46,7 +49,7 @@ module _ (fixed : ℕ) (request reply l : List ℕ) where
   unfolding choose
   cut t =
       let e : CutOff ≡ repliedOf fixed request reply l = rw t in
-      ((e, ap told e ∙ agree fixed request reply l), rw t)
+      ((e, ap repliedTold e ∙ agree fixed request reply l), rw t)
 
   pub cut-off : length request < 18 + fixed → Answered fixed request reply l CutOff l
   cut-off h = cut (lt-ltb (length request) (18 + fixed) h)
@@ -58,7 +61,7 @@ module _ (fixed : ℕ) (request reply l : List ℕ) where
         let s : cutOff fixed request ≡ false = le-ltb (length request) (18 + fixed) whole in
         let t : noRoom reply l ≡ true = lt-ltb (length l) (length reply) (omega arith) in
         let e : NoRoom ≡ repliedOf fixed request reply l = rw (s, t) in
-        ((e, ap told e ∙ agree fixed request reply l), rw (s, t))
+        ((e, ap repliedTold e ∙ agree fixed request reply l), rw (s, t))
 
     pub room : (x : List ℕ) → length request ≤ length l → x ≡ laid 0 reply l → Answered fixed request reply l (Octets (length request)) x
     unfolding choose
@@ -66,4 +69,4 @@ module _ (fixed : ℕ) (request reply l : List ℕ) where
         let s : cutOff fixed request ≡ false = le-ltb (length request) (18 + fixed) whole in
         let t : noRoom reply l ≡ false = le-ltb (length l) (length reply) (omega arith) in
         let e : Octets (length request) ≡ repliedOf fixed request reply l = rw (s, t, long) in
-        ((e, ap told e ∙ agree fixed request reply l), rw (s, t) f)
+        ((e, ap repliedTold e ∙ agree fixed request reply l), rw (s, t) f)

@@ -35,4 +35,5 @@ module _ (own request : List ℕ) (six : length own ≡ 6) (opcode fixed : ℕ) 
       written {z = z} room e f =
           let long = reply-long own request six opcode (omega arith) in
           let all = over-laid pieces (replyOctets own opcode request) l fits (omega arith) (omega arith) in
-          case.room fixed request reply l whole (as-long whole) z room (f ∙ ap (over pieces) (e ∙ into-room own opcode request l (omega arith) room) ∙ all)
+          case.room fixed request reply l whole (as-long whole) z room
+          (f ∙ ap (over pieces) (e ∙ into-room own opcode request l (omega arith) room) ∙ all)

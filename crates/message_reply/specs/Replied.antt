@@ -32,19 +32,19 @@ pub record RepliedTold : Type 0 where
   pub drop : ℕ
   pub length : ℕ
 
-abbrev pub numbers : ℕ → ℕ → ℕ → RepliedTold
-numbers refusal drop length = record { refusal = refusal; drop = drop; length = length }
+abbrev pub tellReplied : ℕ → ℕ → ℕ → RepliedTold
+tellReplied refusal drop length = record { refusal = refusal; drop = drop; length = length }
 
-unfoldable pub told : Replied → RepliedTold
-told CutOff = numbers 0 5 0
-told NoRoom = numbers 3 0 0
-told (Octets n) = numbers 0 0 n
+unfoldable pub repliedTold : Replied → RepliedTold
+repliedTold CutOff = tellReplied 0 5 0
+repliedTold NoRoom = tellReplied 3 0 0
+repliedTold (Octets n) = tellReplied 0 0 n
 
-abbrev pub numbersOf : ℕ → List ℕ → List ℕ → List ℕ → RepliedTold
-numbersOf fixed request reply buffer =
-    choose ((cutOff fixed request, numbers 0 5 0) ∷ (noRoom reply buffer, numbers 3 0 0) ∷ []) (numbers 0 0 (length reply))
+abbrev pub repliedNumbers : ℕ → List ℕ → List ℕ → List ℕ → RepliedTold
+repliedNumbers fixed request reply buffer =
+    choose ((cutOff fixed request, tellReplied 0 5 0) ∷ (noRoom reply buffer, tellReplied 3 0 0) ∷ []) (tellReplied 0 0 (length reply))
 
 -- an answer is told as the paper numbers it, and no two answers are told alike
 pub record RepliedNumbers : Type 0 where
-  pub agree : (fixed : ℕ) (request reply buffer : List ℕ) → told (repliedOf fixed request reply buffer) ≡ numbersOf fixed request reply buffer
-  pub apart : (a b : Replied) → told a ≡ told b → a ≡ b
+  pub agree : (fixed : ℕ) (request reply buffer : List ℕ) → repliedTold (repliedOf fixed request reply buffer) ≡ repliedNumbers fixed request reply buffer
+  pub apart : (a b : Replied) → repliedTold a ≡ repliedTold b → a ≡ b

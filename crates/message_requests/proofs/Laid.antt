@@ -17,7 +17,7 @@ use Rattle.state_settings.proofs.Shape.{own-long, peer-long}
 use Rattle.message_parts.specs.Messages.{count, stampOctets, afterDestination}
 use Rattle.message_parts.specs.declared.parts.Written.{Written}
 use Rattle.message_parts.specs.declared.parts.Written.the-variants.{NoRoom, Octets}
-use Rattle.message_parts.specs.Buffer.{writtenOf, bufferOf, told, numbersOf}
+use Rattle.message_parts.specs.Buffer.{writtenOf, bufferOf, writtenTold, writtenNumbers}
 use Rattle.message_parts.proofs.Laid.{count-long, stamp-long, after-long, zeros}
 use Rattle.message_parts.proofs.Numbers.{no-room, room}
 use Rattle.message_requests.specs.Requests.{lmmOctets, dmmOctets, Lengths}
@@ -62,7 +62,8 @@ module _ (names : List ℕ) (whole : length names ≡ nameOctets) (level opcode 
 
   -- the answer and its numbers; what the buffer then has, and the length
   abbrev Wrote : Written → List ℕ → Type 0
-  Wrote r x = ((r ≡ writtenOf message l) × (told r ≡ numbersOf message l)) × ((x ≡ bufferOf message l) × (length message ≡ 18 + n + k))
+  Wrote r x =
+      ((r ≡ writtenOf message l) × (writtenTold r ≡ writtenNumbers message l)) × ((x ≡ bufferOf message l) × (length message ≡ 18 + n + k))
 
   long : length message ≡ 18 + n + k
   long = request-long peer own (firstOctet level 1) opcode offset value n k (peer-long names whole) (own-long names whole) hv

@@ -18,7 +18,6 @@ use Rattle.base_numbers.specs.Numbers.{inOctets, octetsLowestFirst}
 use Rattle.stored_record.specs.Record.{headOf, recordOf, IsRecord, NoRecord, isRecord}
 use Rattle.stored_record.proofs.Laws.{records}
 use Rattle.stored_settings.specs.SettingsRecord.{settingsAt}
-use Rattle.stored_settings.proofs.SettingsRecords.{settings-records}
 use Rattle.stored_line.specs.declared.LossLine.{LossLine}
 use Rattle.stored_line.specs.Line.{KeepsRules, keepsRules, lineBody, lineRecord, lineIn}
 use Rattle.stored_line.proofs.LineRecords.{loss-records}

@@ -27,22 +27,28 @@ use Rattle.stored_record.specs.declared.RecordAnswer.{RecordAnswer}
 
 -- ── stored records ──
 
-pub read-settings-follows : (κs : _) (a : _) (r : _) (s : _) → read-settings.Post κs a r s → (o : RecordLeft) → RecordSaid (call.read-settings (now (a .0))) o
+pub read-settings-follows : (κs : _) (a : _) (r : _) (s : _) → read-settings.Post κs a r s → (o : RecordLeft)
+    → RecordSaid (call.read-settings (now (a .0))) o
     → leaving (cond (eqb (r .refusal) 0) (settings (settingsRead r)) (refused (r .refusal))) [] ≡ o
 read-settings-follows κs a r s p o q =
-    ap (λ (t : SettingsRead). leaving (cond (eqb (t .refusal) 0) (settings (settingsRead t)) (refused (t .refusal))) []) p ∙ records-follow .ours .follows _ o tt q
+    ap (λ (t : SettingsRead). leaving (cond (eqb (t .refusal) 0) (settings (settingsRead t)) (refused (t .refusal))) []) p
+    ∙ records-follow .ours .follows _ o tt q
 
 pub write-settings-follows : (κs : _) (a : _) (r : _) (s : _) → write-settings.Post κs a r s → (o : RecordLeft)
     → RecordSaid (call.write-settings (settingsOf (now (a .1 .0)) (now (a .1 .1 .0)) (now (a .1 .1 .1 .0))) (now (a .0))) o
     → leaving (writeTells r) (now (s .0)) ≡ o
-write-settings-follows κs a r s p o q = ap (λ (e : Wrote RecordAnswer). leaving (writeTells (e .answer)) (e .buffer)) (p .0 .0) ∙ records-follow .ours .follows _ o (p .1) q
+write-settings-follows κs a r s p o q =
+    ap (λ (e : Wrote RecordAnswer). leaving (writeTells (e .answer)) (e .buffer)) (p .0 .0) ∙ records-follow .ours .follows _ o (p .1) q
 
-pub read-line-follows : (κs : _) (a : _) (r : _) (s : _) → read-line.Post κs a r s → (o : RecordLeft) → RecordSaid (call.read-line (now (a .0))) o → leaving (lineTells r) [] ≡ o
+pub read-line-follows : (κs : _) (a : _) (r : _) (s : _) → read-line.Post κs a r s → (o : RecordLeft)
+    → RecordSaid (call.read-line (now (a .0))) o → leaving (lineTells r) [] ≡ o
 read-line-follows κs a r s p o q = ap (λ (t : LineAnswer). leaving (lineTells t) []) (p .0) ∙ records-follow .ours .follows _ o tt q
 
-pub write-line-follows : (κs : _) (a : _) (r : _) (s : _) → write-line.Post κs a r s → (o : RecordLeft) → RecordSaid (call.write-line (a .1 .0) (now (a .0))) o
+pub write-line-follows : (κs : _) (a : _) (r : _) (s : _) → write-line.Post κs a r s → (o : RecordLeft)
+    → RecordSaid (call.write-line (a .1 .0) (now (a .0))) o
     → leaving (writeTells r) (now (s .0)) ≡ o
-write-line-follows κs a r s p o q = ap (λ (e : Wrote RecordAnswer). leaving (writeTells (e .answer)) (e .buffer)) (p .0) ∙ records-follow .ours .follows _ o tt q
+write-line-follows κs a r s p o q =
+    ap (λ (e : Wrote RecordAnswer). leaving (writeTells (e .answer)) (e .buffer)) (p .0) ∙ records-follow .ours .follows _ o tt q
 
 -- ── the reader of TLVs ──
 
@@ -50,4 +56,5 @@ write-line-follows κs a r s p o q = ap (λ (e : Wrote RecordAnswer). leaving (w
 pub reader-tells : (κs : _) (a : _) (r : _) (s : _) (κt : _) (b : _) (v : _) (t : _) → tlv-answer.Post κs a r s → tlv-value.Post κt b v t
     → now (b .0) ≡ now (a .0) → b .1 .0 ≡ a .1 .0
     → (o : ReaderTells) → Octets (now (a .0)) → ReaderSaid (now (a .0)) (a .1 .0) o → readerTells r (now v) ≡ o
-reader-tells κs a r s κt b v t p q f k o w said = ap₂ readerTells (p .0) (q .0 ∙ ap₂ valueOf f k) ∙ reader-follows .ours .follows _ _ o w said
+reader-tells κs a r s κt b v t p q f k o w said =
+    ap₂ readerTells (p .0) (q .0 ∙ ap₂ valueOf f k) ∙ reader-follows .ours .follows _ _ o w said

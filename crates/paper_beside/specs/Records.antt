@@ -17,7 +17,7 @@ use Rattle.stored_line.specs.declared.LossLine.{LossLine}
 use Rattle.stored_line.specs.declared.LineAnswer.{LineAnswer}
 use Rattle.stored_line.specs.declared.LineAnswer.the-variants as read
 use Rattle.stored_line.specs.Line.{KeepsRules, lineRecord, lineIn}
-use Rattle.stored_line.specs.Calls.{readLine, writeLine}
+use Rattle.stored_line.specs.LineCalls.{readLine, writeLine}
 
 pub data RecordCall : Type 0 where
   read-settings : List ℕ → RecordCall

@@ -35,7 +35,8 @@ record From (flags : ℕ) (fixed pdu : List ℕ) : Type 0 where
   flagged : flagsOf pdu ≡ flags
   held : (at n : ℕ) → at + n ≤ 70 → part (4 + at) n pdu ≡ part at n fixed
 
-from : (first op flags offset : ℕ) (fixed rest : List ℕ) → length fixed ≡ 70 → From flags fixed (first ∷ op ∷ flags ∷ offset ∷ (fixed ++ rest))
+from : (first op flags offset : ℕ) (fixed rest : List ℕ) → length fixed ≡ 70
+    → From flags fixed (first ∷ op ∷ flags ∷ offset ∷ (fixed ++ rest))
 from first op flags offset fixed rest l = record {
   flagged = refl;
   held = λ at n h. part-behind (first ∷ op ∷ flags ∷ offset ∷ []) (fixed ++ rest) at n ∙ part-front at n fixed rest (omega arith);
@@ -47,7 +48,15 @@ module _ {flags : ℕ} {fixed p q : List ℕ} (f : From flags fixed p) (g : From
 
   fields : ccmIn p ≡ ccmIn q
   fields =
-      rw (same 0 4 (omega arith), same 4 2 (omega arith), same 54 4 (omega arith), same 58 4 (omega arith), same 62 4 (omega arith), f .flagged ∙ sym (g .flagged))
+      rw (
+        same 0 4 (omega arith),
+        same 4 2 (omega arith),
+        same 54 4 (omega arith),
+        same 58 4 (omega arith),
+        same 62 4
+            (omega arith),
+        f .flagged ∙ sym (g .flagged),
+      )
 
   meg : megIn p ≡ megIn q
   meg = same 6 48 (omega arith)
@@ -63,19 +72,28 @@ said : {flags : ℕ} {fixed p : List ℕ} → From flags fixed p → ccmIn p ≡
   rdi = flags / 128;
 }
 said f =
-    rw (f .held 0 4 (omega arith), f .held 4 2 (omega arith), f .held 54 4 (omega arith), f .held 58 4 (omega arith), f .held 62 4 (omega arith), f .flagged)
+    rw (
+      f .held 0 4 (omega arith),
+      f .held 4 2 (omega arith),
+      f .held 54 4 (omega arith),
+      f .held 58 4 (omega arith),
+      f .held 62 4
+          (omega arith),
+      f .flagged,
+    )
 
 -- two frames with the same opcode and flags and one answer of the reader are the same message
-module _ (f g : List ℕ) (answered : answerOf f 0 ≡ answerOf g 0) (op : opcodeOf (pduOf f) ≡ opcodeOf (pduOf g)) (flags : flagsOf (pduOf f) ≡ flagsOf (pduOf g)) where
+module _ (f g : List ℕ) (answered : answerOf f 0 ≡ answerOf g 0) (op : opcodeOf (pduOf f) ≡ opcodeOf (pduOf g))
+    (flags : flagsOf (pduOf f) ≡ flagsOf (pduOf g)) where
   message : messageOf f ≡ messageOf g
   unfolding messageOf
   message = ap₂ unlessBad answered (ap₂ judgedOf op flags)
 
   opcode : goodOpcode f ≡ goodOpcode g
   opcode =
-      let numbers : Reader.numbersOf f 0 ≡ Reader.numbersOf g 0 = sym (agree f 0) ∙ ap Reasons.told answered ∙ agree g 0 in
+      let numbers : Reader.tlvNumbers f 0 ≡ Reader.tlvNumbers g 0 = sym (agree f 0) ∙ ap Reasons.tlvTold answered ∙ agree g 0 in
       ap (λ (t : TlvTold). behind t (opcodeOf (pduOf f)) (flagsOf (pduOf f)) .opcode) numbers
-      ∙ ap₂ (λ (o b : ℕ). behind (Reader.numbersOf g 0) o b .opcode) op flags
+      ∙ ap₂ (λ (o b : ℕ). behind (Reader.tlvNumbers g 0) o b .opcode) op flags
 
 pub four-more : fourMore
 unfolding ruleOf choose ccmOf megOf
@@ -115,7 +133,7 @@ four-more addresses fixed extra tlvs level first flags a l m n =
     )
 
 pub one-less : oneLess
-unfolding ruleOf choose Reader.numbersOf
+unfolding ruleOf choose Reader.tlvNumbers
 one-less addresses rest first flags kind a n =
     let p : List ℕ = first ∷ 1 ∷ flags ∷ 69 ∷ rest in
     let f = framed addresses p in

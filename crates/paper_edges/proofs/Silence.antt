@@ -38,7 +38,8 @@ module _ (buffer : List ℕ) (long : 89 ≤ length buffer) where
   one s w = record {
     well = ticks .stays s buffer w;
     settings = ticks .settings-stay s buffer;
-    timer = λ i. ap (λ (x : State). getD (x .timers) i 0) (ticks .passes s buffer (ticks .enough s buffer w long)) ∙ lowered-at (s .timers) i;
+    timer =
+        λ i. ap (λ (x : State). getD (x .timers) i 0) (ticks .passes s buffer (ticks .enough s buffer w long)) ∙ lowered-at (s .timers) i;
   }
 
   run : (n : ℕ) (s : State) → WellFormed s → Left s (after step s (replicate n buffer)) n
@@ -68,7 +69,15 @@ module _ (buffer : List ℕ) (long : 89 ≤ length buffer) where
     told n =
         let e = after step (startOf t) (replicate n buffer) in
         let r = run n (startOf t) (starts .well t v) in
-        rw (conditions-show .answers e (r .well), table-at (lostAt (e .settings .count) (e .timers)) slots slot there, r .settings, lt-ltb slot (t .count) used, r .timer slot, starts-at)
+        rw (
+          conditions-show .answers e (r .well),
+          table-at
+              (lostAt (e .settings .count) (e .timers)) slots slot there,
+          r .settings,
+          lt-ltb slot (t .count) used,
+          r .timer slot,
+          starts-at,
+        )
 
 pub six : silent 6 0
 six t buffer slot v p long used there = (heeded buffer long t slot v p used there 6, told buffer long t slot v p used there 6)

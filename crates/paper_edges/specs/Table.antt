@@ -19,7 +19,7 @@ use Rattle.loss_session.specs.declared.Readings.{Readings}
 use Rattle.loss_growth.specs.Growth.{growth}
 use Rattle.loss_session.specs.Session.{readings, clearedSession}
 use Rattle.loss_reading.specs.Reading.{afterReading}
-use Rattle.loss_reading.specs.Told.{told}
+use Rattle.loss_reading.specs.Told.{lossTold}
 use Rattle.loss_reading.specs.Told as Loss
 use Rattle.loss_account.specs.Demand3.{answers}
 use Rattle.base_stamp.specs.declared.Stamp.{Stamp}
@@ -46,7 +46,7 @@ grows earlier later by = growth (2 ^ 32) earlier later ≡ by
 
 -- a cleared session is given two readings: it keeps the first, and is told these losses at the second
 abbrev pub loses : Readings → Readings → ℤ → ℤ → Type 0
-loses first second far near = map told (answers afterReading clearedSession (first ∷ second ∷ [])) ≡ Loss.results (pos 0) (pos 0) ∷ Loss.results near far ∷ []
+loses first second far near = map lossTold (answers afterReading clearedSession (first ∷ second ∷ [])) ≡ Loss.results (pos 0) (pos 0) ∷ Loss.results near far ∷ []
 
 -- seconds and nanoseconds
 abbrev pub at : ℕ → ℕ → Stamp
@@ -54,14 +54,14 @@ at seconds nanoseconds = record { seconds = seconds; nanoseconds = nanoseconds }
 
 -- TxTimeStampf, RxTimeStampf, TxTimeStampb and the receive stamp are told these delays
 abbrev pub takes : Stamp → Stamp → Stamp → Stamp → ℤ → ℤ → ℤ → Type 0
-takes txf rxf txb here twoway far near = Delay.numbersOf txf rxf txb here ≡ Delay.results twoway far near
+takes txf rxf txb here twoway far near = Delay.delayNumbers txf rxf txb here ≡ Delay.results twoway far near
 
 -- a new setting of period code 1, no CCM, and so many ticks with room for ours: conditions are not refused, and tell this of each peer's loss
 -- of continuity
 abbrev pub silent : ℕ → ℕ → Type 0
-silent ticks told = (t : Settings) (buffer : List ℕ) (slot : ℕ) → Valid t → t .period ≡ 1 → 89 ≤ length buffer → slot < t .count → slot < slots
+silent ticks lossTold = (t : Settings) (buffer : List ℕ) (slot : ℕ) → Valid t → t .period ≡ 1 → 89 ≤ length buffer → slot < t .count → slot < slots
     → (conditionsOf (after (λ s b. tickOf s b .state) (startOf t) (replicate ticks buffer)) .refusal ≡ 0)
-    × (getD (conditionsOf (after (λ s b. tickOf s b .state) (startOf t) (replicate ticks buffer)) .conditions .lost) slot 0 ≡ told)
+    × (getD (conditionsOf (after (λ s b. tickOf s b .state) (startOf t) (replicate ticks buffer)) .conditions .lost) slot 0 ≡ lossTold)
 
 -- a CCM's frame: addresses, 89-02, level and version, opcode 1, flags, TLV offset, and the octets behind it
 abbrev pub ccmFrame : List ℕ → ℕ → ℕ → ℕ → List ℕ → List ℕ
@@ -105,7 +105,7 @@ isRead = (addresses fixed extra tlvs : List ℕ) (level flags : ℕ) (ts : List 
 -- one with offset 69 is D4, whatever else it holds
 abbrev pub oneLess : Type 0
 oneLess = (addresses behind : List ℕ) (first flags kind : ℕ) → length addresses ≡ 12 → length behind ≤ 1496
-    → Reader.numbersOf (ccmFrame addresses first flags 69 behind) kind ≡ Reasons.numbers 0 4 0
+    → Reader.tlvNumbers (ccmFrame addresses first flags 69 behind) kind ≡ Reasons.tellTlv 0 4 0
 
 -- ── the table; `negsuc n` is -(n + 1) ──
 

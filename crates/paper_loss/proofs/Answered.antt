@@ -38,13 +38,19 @@ answered-from (r ∷ rs) x h = go (λ z k. answered-from rs z k)
         ⊎-elim
         (λ (t : eqb (x .kept) 0 ≡ true).
         let k = eqb-true (x .kept) 0 t in
-        let e = reading-first x r v k in
-        (rw e (measured (pos 0) (pos 0)), again (afterReading x r .session) (record { fine = stays x r (h .fine); fits = rw e (omega (arith, h .fits, k, h .fine .nothing k .0)) })))
+        let e = reading-first x r v k in (
+          rw e (measured (pos 0) (pos 0)),
+          again (afterReading x r .session)
+              (record { fine = stays x r (h .fine); fits = rw e (omega (arith, h .fits, k, h .fine .nothing k .0)) }),
+        ))
         (λ (t : eqb (x .kept) 0 ≡ false).
         let n = eqb-false (x .kept) 0 t in
         let few : x .intervals < mostIntervals = omega (arith, h .fits, n) in
-        let e = reading-measured x r v n (λ q. omega (arith, few, q)) in
-        (rw e (measured (lossOn near (x .last) r) (lossOn far (x .last) r)), again (afterReading x r .session) (record { fine = stays x r (h .fine); fits = rw e (omega (arith, h .fits, n)) })))
+        let e = reading-measured x r v n (λ q. omega (arith, few, q)) in (
+          rw e (measured (lossOn near (x .last) r) (lossOn far (x .last) r)),
+          again (afterReading x r .session)
+              (record { fine = stays x r (h .fine); fits = rw e (omega (arith, h .fits, n)) }),
+        ))
         (known (eqb (x .kept) 0))
 
 pub answered : (rs : List Readings) → length rs ≤ mostReadings → Each Measured (map toldOf (answers afterReading clearedSession rs))

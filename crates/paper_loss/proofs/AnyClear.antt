@@ -14,7 +14,8 @@ use Rattle.paper_loss.specs.Demand3.{Demand3}
 use Rattle.paper_loss.specs.Meets.{FromAnyClear}
 use Rattle.paper_loss.proofs.Same.{is-to}
 
-events-to : (s y : State) (cs : List Call) (es : List Event) → WellFormed s → WellFormed y → s .settings ≡ y .settings → Events s cs es → Events y cs es
+events-to : (s y : State) (cs : List Call) (es : List Event) → WellFormed s → WellFormed y → s .settings ≡ y .settings → Events s cs es
+    → Events y cs es
 events-to s y cs es v w t none = none
 events-to s y cs es v w t (next c e ds fs i rest) = next c e ds fs (is-to s y c e v w t i) (events-to s y ds fs v w t rest)
 
@@ -39,7 +40,8 @@ plus-zero : (n : ℕ) → n + 0 ≡ n
 plus-zero n = omega arith
 
 -- a clear leaves the received count
-count-left : (B : Box) → Demand3 B → (n m : ℕ) (y : State) → y .received ≡ n % 2 ^ 32 → y .sent ≡ m % 2 ^ 32 → B y call.clear .state .received ≡ n % 2 ^ 32
+count-left : (B : Box) → Demand3 B → (n m : ℕ) (y : State) → y .received ≡ n % 2 ^ 32 → y .sent ≡ m % 2 ^ 32
+    → B y call.clear .state .received ≡ n % 2 ^ 32
 unfolding after Each receivedIn
 count-left B d n m y h g =
     d .counts n m y (call.clear ∷ []) (other ∷ []) h g (tt, tt) (clear-no-setting, tt) (next call.clear other [] [] (clear-is y) none) .0

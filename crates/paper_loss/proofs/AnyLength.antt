@@ -40,7 +40,8 @@ module _ (f : Step) where
     full-answers : (ys : List Readings) → answers f s ys ≡ replicate (length ys) Full
     unfolding answers
     full-answers [] = refl
-    full-answers (y ∷ ys) = ap₂ _∷_ (ap (λ (u : Updated). u .answer) (full y)) (ap (λ (u : Updated). answers f (u .session) ys) (full y) ∙ full-answers ys)
+    full-answers (y ∷ ys) =
+        ap₂ _∷_ (ap (λ (u : Updated). u .answer) (full y)) (ap (λ (u : Updated). answers f (u .session) ys) (full y) ∙ full-answers ys)
 
     full-left : (ys : List Readings) → leaves f s ys ≡ s
     unfolding after
@@ -61,15 +62,22 @@ cut f m rs = go (leb (length rs) most) refl
         let z : length rs - most ≡ 0 = omega arith in
         let w : take most rs ≡ rs = take-all most rs h in
         let l : length (take most rs) ≡ length rs = ap length w in
-        record { said = rw (w, z) (sym (append-nil (answers f clearedSession rs))); left = ap (leaves f clearedSession) (sym w); few = omega arith }
+        record {
+          said = rw (w, z) (sym (append-nil (answers f clearedSession rs)));
+          left = ap (leaves f clearedSession) (sym w);
+          few = omega arith;
+        }
     go false e =
         let h : most < length rs = leb-false (length rs) most e in
         let l : length (take most rs) ≡ most = length-take-le most rs (omega arith) in
         let s : LossSession = leaves f clearedSession (take most rs) in
         let full : (r : Readings) → f s r ≡ record { answer = Full; session = s } = λ r. m .later (take most rs) r (omega arith) in
         record {
-          said = ap (answers f clearedSession) (sym (take-append-drop most rs)) ∙ answers-append f (take most rs) (drop most rs) clearedSession
-              ∙ ap (λ (xs : List LossAnswer). answers f clearedSession (take most rs) ++ xs) (full-answers f s full (drop most rs) ∙ ap (λ (k : ℕ). replicate k Full) (length-drop most rs));
-          left = ap (leaves f clearedSession) (sym (take-append-drop most rs)) ∙ leaves-append f (take most rs) (drop most rs) clearedSession ∙ full-left f s full (drop most rs);
+          said = ap (answers f clearedSession) (sym (take-append-drop most rs))
+              ∙ answers-append f (take most rs) (drop most rs) clearedSession
+              ∙ ap (λ (xs : List LossAnswer). answers f clearedSession (take most rs) ++ xs)
+              (full-answers f s full (drop most rs) ∙ ap (λ (k : ℕ). replicate k Full) (length-drop most rs));
+          left = ap (leaves f clearedSession) (sym (take-append-drop most rs))
+              ∙ leaves-append f (take most rs) (drop most rs) clearedSession ∙ full-left f s full (drop most rs);
           few = omega arith;
         }

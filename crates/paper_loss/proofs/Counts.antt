@@ -38,7 +38,8 @@ module _ (B : Box) (F : Follows B) (s : State) where
   counts-well cs es none u k n m y w h g = (h ∙ ap (λ (x : ℕ). x % 2 ^ 32) (plus-zero n), g ∙ ap (λ (x : ℕ). x % 2 ^ 32) (plus-zero m))
   counts-well cs es (next c (reply txf rxf txb) ds fs i rest) u k n m y w h g =
       let x = here B F s y c (reply txf rxf txb) w (u .0) (k .0) i in
-      counts-well ds fs rest (u .1) (k .1) n m (B y c .state) (onward B F s y c (reply txf rxf txb) w (u .0) (k .0) i) (x .received ∙ h) (x .sent ∙ g)
+      counts-well ds fs rest (u .1) (k .1) n m (B y c .state) (onward B F s y c (reply txf rxf txb) w (u .0) (k .0) i) (x .received ∙ h)
+      (x .sent ∙ g)
   counts-well cs es (next c received ds fs i rest) u k n m y w h g =
       let x = here B F s y c received w (u .0) (k .0) i in
       let r = counts-well ds fs rest (u .1) (k .1) (n + 1) m (B y c .state) (onward B F s y c received w (u .0) (k .0) i)
@@ -93,7 +94,8 @@ module _ (B : Box) (F : Follows B) (s : State) (bad : WellFormed s → ⊥) wher
         ap (λ (y : State). y .sent) r ∙ g ∙ ap (λ (x : ℕ). x % 2 ^ 32) (plus-zero m ∙ ap (λ (x : ℕ). m + x) (sym (z .1))),
       )
 
-pub counts : (B : Box) → Follows B → (n m : ℕ) (s : State) (cs : List Call) (es : List Event) → s .received ≡ n % 2 ^ 32 → s .sent ≡ m % 2 ^ 32
+pub counts : (B : Box) → Follows B → (n m : ℕ) (s : State) (cs : List Call) (es : List Event) → s .received ≡ n % 2 ^ 32
+    → s .sent ≡ m % 2 ^ 32
     → Each OnWire cs → Each NoSetting cs → Events s cs es → Tied B n m s cs es
 counts B F n m s cs es h g u k v =
     ⊎-elim

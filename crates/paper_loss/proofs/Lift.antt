@@ -1,4 +1,5 @@
--- A run of a box that follows the paper is a run of the loss session over the good replies' readings, and its counts are those of the frames.
+-- A run of a box that follows the paper is a run of the loss session over the good replies' readings, and its counts are those of the
+-- frames.
 -- Assumes nothing.
 use Prim.Native.Nat.{ℕ, _+_, _%_, _^_}
 use mathlib.Core.Path.{_≡_, refl, sym, ap, ap₂, _∙_}
@@ -35,7 +36,8 @@ module _ (B : Box) (F : Follows B) (s : State) where
     onward = record { start = w .start; well = stays B F y c u (w .well); settings = here .settings ∙ w .settings }
 
   -- the whole run keeps to it
-  pub keeps-to : (cs : List Call) (es : List Event) → Events s cs es → Each OnWire cs → Each NoSetting cs → (y : State) → Within s y → Within s (run B y cs)
+  pub keeps-to : (cs : List Call) (es : List Event) → Events s cs es → Each OnWire cs → Each NoSetting cs → (y : State) → Within s y
+      → Within s (run B y cs)
   unfolding after Each
   keeps-to cs es none u k y w = w
   keeps-to cs es (next c e ds fs i rest) u k y w = keeps-to ds fs rest (u .1) (k .1) (B y c .state) (onward y c e w (u .0) (k .0) i)
@@ -61,15 +63,21 @@ module _ (B : Box) (F : Follows B) (s : State) where
       let m : readings txf rxf txb (y .received) ≡ readings txf rxf txb (n % 2 ^ 32) = ap (readings txf rxf txb) h in
       let z = x .session (j .0) ∙ ap (λ (q : Readings). afterReading (y .session) q .session) m in
       record {
-        said = ap₂ _∷_ (x .answer ∙ ap (λ (q : Readings). toldOf (afterReading (y .session) q .answer)) m) (r .said ∙ ap (answersFrom (repliesIn n fs)) z);
+        said = ap₂ _∷_ (x .answer ∙ ap (λ (q : Readings). toldOf (afterReading (y .session) q .answer)) m)
+            (r .said ∙ ap (answersFrom (repliesIn n fs)) z);
         left = r .left ∙ ap (leavesFrom (repliesIn n fs)) z;
         end = r .end;
       }
   lift cs es (next c received ds fs i rest) u k j n y w h =
       let x = here y c received w (u .0) (k .0) i in
-      let r = lift ds fs rest (u .1) (k .1) (j .1) (n + 1) (B y c .state) (onward y c received w (u .0) (k .0) i) (x .received ∙ ap (λ (m : ℕ). (m + 1) % 2 ^ 32) h ∙ mod-add-mod n (2 ^ 32) 1) in
+      let r = lift ds fs rest (u .1) (k .1) (j .1) (n + 1) (B y c .state) (onward y c received w (u .0) (k .0) i)
+      (x .received ∙ ap (λ (m : ℕ). (m + 1) % 2 ^ 32) h ∙ mod-add-mod n (2 ^ 32) 1) in
       let z = x .session (j .0) in
-      record { said = r .said ∙ ap (answersFrom (repliesIn (n + 1) fs)) z; left = r .left ∙ ap (leavesFrom (repliesIn (n + 1) fs)) z; end = r .end }
+      record {
+        said = r .said ∙ ap (answersFrom (repliesIn (n + 1) fs)) z;
+        left = r .left ∙ ap (leavesFrom (repliesIn (n + 1) fs)) z;
+        end = r .end;
+      }
   lift cs es (next c sent ds fs i rest) u k j n y w h =
       let x = here y c sent w (u .0) (k .0) i in
       let r = lift ds fs rest (u .1) (k .1) (j .1) n (B y c .state) (onward y c sent w (u .0) (k .0) i) (x .received ∙ h) in

@@ -8,7 +8,7 @@ use Rattle.loss_session.specs.declared.LossSession.{LossSession}
 use Rattle.loss_reading.specs.declared.LossAnswer.{LossAnswer}
 use Rattle.loss_reading.specs.declared.LossAnswer.the-variants as answer
 use Rattle.loss_reading.specs.declared.Updated.{Updated}
-use Rattle.loss_session.specs.Session.{Side, near, totalOf, clearedSession}
+use Rattle.loss_session.specs.Session.{LossEnd, near, totalOf, clearedSession}
 use Rattle.loss_reading.specs.Reading.{afterReading}
 use Rattle.loss_session.proofs.Laws.{cleared-well}
 use Rattle.loss_account.specs.Account.{Truth, Sound}
@@ -76,7 +76,7 @@ module _ (B : Box) (F : Follows B) where
     first-session : run B s cs .session ≡ account.leaves afterReading clearedSession (take most rs)
     first-session = session-is ∙ cuts .left
 
-    agrees : (d : Side) (ts : List Truth) → Shows d (take most rs) ts → Sound ts → Agrees B d n s cs es ts
+    agrees : (d : LossEnd) (ts : List Truth) → Shows d (take most rs) ts → Sound ts → Agrees B d n s cs es ts
     agrees d ts shows fine =
         let a = Account.meets .side d (take most rs) ts (cuts .few) shows fine in
         let k = length rs - most in

@@ -3,7 +3,7 @@ use mathlib.Core.Path.{_≡_, sym, ap, _∙_}
 use Rattle.state_settings.specs.Settings.{Settings}
 use Rattle.state_view.specs.State.{State}
 use Rattle.state_view.specs.WellFormed.{WellFormed}
-use Rattle.paper_said.specs.Calls.{Side, Arrival, Call}
+use Rattle.paper_said.specs.Calls.{ArrivalSide, Arrival, Call}
 use Rattle.paper_said.specs.Cases.{Heeded, OwnLevel}
 use Rattle.paper_said.specs.Drops.{GoodDestination, own, group, D6, destination, group-source, stranger, Sound}
 use Rattle.paper_said.specs.Taken.{LossReply}
@@ -13,7 +13,7 @@ module _ (s y : State) (a : Arrival) (w : WellFormed y) (e : s .settings ≡ y .
   heeded-to : Heeded s a → Heeded y a
   heeded-to h = record { well = w; long = h .long; receive = h .receive; transmit = h .transmit }
 
-  pub counted-to : (d : Side) → CountedFrom d s a → CountedFrom d y a
+  pub counted-to : (d : ArrivalSide) → CountedFrom d s a → CountedFrom d y a
   counted-to d c = record { heeded = heeded-to (c .heeded); service = c .service; from = c .from }
 
   own-to : OwnLevel s a → OwnLevel y a
@@ -33,7 +33,14 @@ module _ (s y : State) (a : Arrival) (w : WellFormed y) (e : s .settings ≡ y .
   sixth-back (stranger o n) = stranger o (λ x. n (x ∙ ap (λ (t : Settings). t .losspeer) e))
 
   sound-to : Sound s a → Sound y a
-  sound-to q = record { least = q .least; handled = q .handled; offset = q .offset; tlvs = q .tlvs; destination = λ d. q .destination (sixth-back d) }
+  sound-to q =
+      record {
+        least = q .least;
+        handled = q .handled;
+        offset = q .offset;
+        tlvs = q .tlvs;
+        destination = λ d. q .destination (sixth-back d);
+      }
 
   pub reply-to : LossReply s a → LossReply y a
   reply-to l = record { own = own-to (l .own); sound = sound-to (l .sound); lmr = l .lmr }

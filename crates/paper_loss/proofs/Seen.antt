@@ -6,7 +6,7 @@ use lib.IntN.{ℤ, pos}
 use lib.ListN.{take, replicate}
 use Rattle.loss_reading.specs.declared.LossAnswer.{LossAnswer}
 use Rattle.loss_reading.specs.declared.LossAnswer.the-variants as answer
-use Rattle.loss_session.specs.Session.{Side, near, far}
+use Rattle.loss_session.specs.Session.{LossEnd, near, far}
 use Rattle.loss_account.specs.Account.{Truth, losses}
 use Rattle.loss_account.specs.Demand3 as account
 use Rattle.paper_said.specs.Calls.{Answer}
@@ -22,7 +22,7 @@ inBox (account.refused n) = refused n
 inBox account.kept = loss (pos 0)
 inBox (account.loss z) = loss z
 
-told-seen : (d : Side) (x : LossAnswer) → seen d (toldOf x) ≡ inBox (account.seen d x)
+told-seen : (d : LossEnd) (x : LossAnswer) → seen d (toldOf x) ≡ inBox (account.seen d x)
 told-seen near answer.NotWellFormed = refl
 told-seen near answer.Full = refl
 told-seen near answer.First = refl
@@ -32,7 +32,7 @@ told-seen far answer.Full = refl
 told-seen far answer.First = refl
 told-seen far (answer.Measured n f) = refl
 
-pub all-seen : (d : Side) (xs : List LossAnswer) → map (seen d) (map toldOf xs) ≡ map inBox (map (account.seen d) xs)
+pub all-seen : (d : LossEnd) (xs : List LossAnswer) → map (seen d) (map toldOf xs) ≡ map inBox (map (account.seen d) xs)
 all-seen d [] = refl
 all-seen d (x ∷ xs) = ap₂ _∷_ (told-seen d x) (all-seen d xs)
 
@@ -45,7 +45,7 @@ unfolding account.accounted
 all-accounted [] = refl
 all-accounted (t ∷ ts) = ap (λ (l : List Seen). loss (pos 0) ∷ l) (all-losses (losses t ts))
 
-pub all-full : (d : Side) (k : ℕ) → map inBox (map (account.seen d) (replicate k answer.Full)) ≡ replicate k (refused 5)
+pub all-full : (d : LossEnd) (k : ℕ) → map inBox (map (account.seen d) (replicate k answer.Full)) ≡ replicate k (refused 5)
 all-full d zero = refl
 all-full near (suc k) = ap (λ (l : List Seen). refused 5 ∷ l) (all-full near k)
 all-full far (suc k) = ap (λ (l : List Seen). refused 5 ∷ l) (all-full far k)

@@ -13,7 +13,8 @@ use Rattle.paper_loss.specs.Replies.{oursAt, repliesIn}
 use Rattle.paper_loss.specs.Own.{Apart, Neighbours, PeerSent, beside, FewCounted}
 
 -- the readings show what the peer sent beside what we counted
-pub shown : (k : ℕ) (es : List Event) (n : ℕ) (xs : List ℕ) → PeerSent (take k (repliesIn n es)) xs → Shows near (take k (repliesIn n es)) (beside xs (take k (oursAt n es)))
+pub shown : (k : ℕ) (es : List Event) (n : ℕ) (xs : List ℕ) → PeerSent (take k (repliesIn n es)) xs
+    → Shows near (take k (repliesIn n es)) (beside xs (take k (oursAt n es)))
 unfolding repliesIn oursAt
 shown zero es n [] p = tt
 shown zero es n (x ∷ xs) p = absurd p
@@ -44,10 +45,12 @@ rising (suc k) (received ∷ es) n = rising (suc k) es (n + 1)
 rising (suc k) (sent ∷ es) n = rising (suc k) es n
 rising (suc k) (other ∷ es) n = rising (suc k) es n
 
-goes-on : (x y : ℕ) (xs ys : List ℕ) → Apart Grows x xs → Apart _≤_ y ys → Apart FewCounted y ys → GoesOn (record { sent = x; received = y }) (beside xs ys)
+goes-on : (x y : ℕ) (xs ys : List ℕ) → Apart Grows x xs → Apart _≤_ y ys → Apart FewCounted y ys
+    → GoesOn (record { sent = x; received = y }) (beside xs ys)
 goes-on x y [] ys g h k = tt
 goes-on x y (u ∷ xs) [] g h k = tt
-goes-on x y (u ∷ xs) (v ∷ ys) g h k = (g .0, record { rises = h .0; small = omega (arith, k .0 .few) }, goes-on u v xs ys (g .1) (h .1) (k .1))
+goes-on x y (u ∷ xs) (v ∷ ys) g h k =
+    (g .0, record { rises = h .0; small = omega (arith, k .0 .few) }, goes-on u v xs ys (g .1) (h .1) (k .1))
 
 pub sound : (xs ys : List ℕ) → Neighbours Grows xs → Neighbours _≤_ ys → Neighbours FewCounted ys → Sound (beside xs ys)
 sound [] ys g h k = tt

@@ -11,7 +11,7 @@ use Rattle.base_numbers.specs.Numbers.{number, bigEndian}
 use Rattle.base_octets.proofs.Octets.{part-octets}
 use Rattle.base_numbers.proofs.Laws.{number-below}
 use Rattle.loss_session.specs.declared.Readings.{Readings}
-use Rattle.loss_session.specs.Session.{Side, near, far, readings, sentOf, receivedOf, totalOf}
+use Rattle.loss_session.specs.Session.{LossEnd, near, far, readings, sentOf, receivedOf, totalOf}
 use Rattle.loss_account.specs.Account.{Truth}
 use Rattle.loss_account.specs.Demand3.{Small}
 use Rattle.loss_account.proofs.Tight.{shown-by}
@@ -40,14 +40,17 @@ powers : (n : ℕ) → n ≤ 4 → 256 ^ n ≤ 2 ^ 32
 powers n h = let some : 0 < 256 = omega arith in pow-le-pow-right some h
 
 word-small : (p : List ℕ) (at : ℕ) → Octets p → number bigEndian (part at 4 p) < 2 ^ 32
-word-small p at o = omega (arith, number-below bigEndian (part at 4 p) (part-octets at 4 p o), powers (length (part at 4 p)) (part-short at p))
+word-small p at o =
+    omega (arith, number-below bigEndian (part at 4 p) (part-octets at 4 p o), powers (length (part at 4 p)) (part-short at p))
 
 abbrev Fits : Readings → Type 0
-Fits r = (d : Side) → (sentOf d r < 2 ^ 32) × (receivedOf d r < 2 ^ 32)
+Fits r = (d : LossEnd) → (sentOf d r < 2 ^ 32) × (receivedOf d r < 2 ^ 32)
 
-reply-small : {s : State} {c : Call} {txf rxf txb : ℕ} → Is s c (reply txf rxf txb) → OnWire c → (n : ℕ) → Fits (readings txf rxf txb (n % 2 ^ 32))
+reply-small : {s : State} {c : Call} {txf rxf txb : ℕ} → Is s c (reply txf rxf txb) → OnWire c → (n : ℕ)
+    → Fits (readings txf rxf txb (n % 2 ^ 32))
 reply-small (is-reply a l) u n near = (word-small (pdu a) 12 (behind (a .octets) 14 (u .octets)), omega arith)
-reply-small (is-reply a l) u n far = (word-small (pdu a) 4 (behind (a .octets) 14 (u .octets)), word-small (pdu a) 8 (behind (a .octets) 14 (u .octets)))
+reply-small (is-reply a l) u n far =
+    (word-small (pdu a) 4 (behind (a .octets) 14 (u .octets)), word-small (pdu a) 8 (behind (a .octets) 14 (u .octets)))
 
 small : (s : State) (k : ℕ) (cs : List Call) (es : List Event) → Events s cs es → Each OnWire cs → (n : ℕ) → Small (take k (repliesIn n es))
 unfolding Each repliesIn
@@ -79,7 +82,8 @@ tight B C f g n s cs es c =
       intervals = f .intervals n s cs es c ∙ sym (g .intervals n s cs es c);
     }
   where
-    totals : {ts us : List Truth} → Agrees B near n s cs es ts → Agrees B far n s cs es us → Agrees C near n s cs es ts → Agrees C far n s cs es us
-        → (d : Side) → totalOf d (run B s cs .session) ≡ totalOf d (run C s cs .session)
+    totals : {ts us : List Truth} → Agrees B near n s cs es ts → Agrees B far n s cs es us → Agrees C near n s cs es ts
+        → Agrees C far n s cs es us
+        → (d : LossEnd) → totalOf d (run B s cs .session) ≡ totalOf d (run C s cs .session)
     totals a b p q near = a .totals ∙ sym (p .totals)
     totals a b p q far = b .totals ∙ sym (q .totals)

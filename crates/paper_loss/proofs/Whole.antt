@@ -4,10 +4,9 @@ use mathlib.Core.Path.{_≡_, refl, sym, ap, ap₂, _∙_}
 use mathlib.Core.Bool.{Bool, true, false, true≢false}
 use mathlib.Core.List.{List, [], _∷_}
 use native.Mathlib.Omega.{arith}
-use Rattle.loss_reading.proofs.Refusals.{refuses-2}
 use Rattle.state_view.specs.State.{State}
 use Rattle.paper_said.specs.Calls as call
-use Rattle.paper_said.specs.Calls.{Side, active, passive, Arrival, Call, OnWire, NoSetting}
+use Rattle.paper_said.specs.Calls.{ArrivalSide, active, passive, Arrival, Call, OnWire, NoSetting}
 use Rattle.paper_said.specs.Taken.{LossReply}
 use Rattle.paper_loss.specs.Runs.{Each, CountedFrom, Event, reply, received, sent, other, Is, is-reply, is-received, is-sent}
 use Rattle.paper_loss.specs.Runs.{is-other, Events, none, next}
@@ -51,7 +50,7 @@ all s (c ∷ cs) u k =
 
 -- ── one alone ──
 
-apart : (s : State) (a : Arrival) (d : Side) {X : Type 0} → LossReply s a → CountedFrom d s a → X
+apart : (s : State) (a : Arrival) (d : ArrivalSide) {X : Type 0} → LossReply s a → CountedFrom d s a → X
 apart s a d l c = absurd (c .service (l .own .oam .ether))
 
 sides : (s : State) (a : Arrival) {X : Type 0} → CountedFrom active s a → CountedFrom passive s a → X

@@ -5,7 +5,7 @@ use mathlib.Core.Path.{_≡_}
 use mathlib.Core.List.{List, [], _∷_, _++_, map}
 use lib.IntN.{pos}
 use lib.ListN.{length, replicate}
-use Rattle.loss_session.specs.Session.{Side, near, far, totalOf}
+use Rattle.loss_session.specs.Session.{LossEnd, near, far, totalOf}
 use Rattle.loss_account.specs.Account.{lost, total}
 use Rattle.loss_account.specs.Demand3.{Counts, truthOf, shown, Steady}
 use Rattle.state_view.specs.State.{State}
@@ -26,7 +26,7 @@ tells (t ∷ ts) = loss (pos 0) (pos 0) ∷ measurements t ts
 -- the true counts ts behind the accepted replies: results, both totals and the intervals
 pub record BothAgree (B : Box) (n : ℕ) (s : State) (cs : List Call) (es : List Event) (ts : List Counts) : Type 0 where
   pub results : said B s cs es ≡ tells ts ++ replicate (length (repliesIn n es) - most) (refused 5)
-  pub totals : (d : Side) → totalOf d (run B s cs .session) ≡ total (map (truthOf d) ts)
+  pub totals : (d : LossEnd) → totalOf d (run B s cs .session) ≡ total (map (truthOf d) ts)
   pub intervals : run B s cs .session .intervals ≡ length ts - 1
 
 -- each reading is a true count modulo 2^32, and no true count falls, or grows by 2^32 or more

@@ -5,7 +5,7 @@ use mathlib.Core.List.{List, _++_, map}
 use lib.IntN.{ℤ}
 use lib.ListN.{length, take, replicate}
 use Rattle.state_settings.specs.Settings.{Settings}
-use Rattle.loss_session.specs.Session.{Side, near, totalOf, clearedSession}
+use Rattle.loss_session.specs.Session.{LossEnd, near, totalOf, clearedSession}
 use Rattle.loss_account.specs.Account.{Truth, Grows, Sound, total}
 use Rattle.loss_account.specs.Demand3.{Shows}
 use Rattle.state_view.specs.State.{State}
@@ -27,7 +27,7 @@ pub data Measured : Answer → Type 0 where
   measured : (near far : ℤ) → Measured (told.loss near far)
 
 -- one side of a run agrees with the account ts of the accepted replies, and every further reply is refused with 5
-pub record Agrees (B : Box) (d : Side) (n : ℕ) (s : State) (cs : List Call) (es : List Event) (ts : List Truth) : Type 0 where
+pub record Agrees (B : Box) (d : LossEnd) (n : ℕ) (s : State) (cs : List Call) (es : List Event) (ts : List Truth) : Type 0 where
   pub results : map (seen d) (said B s cs es) ≡ map loss (accounted ts) ++ replicate (length (repliesIn n es) - most) (refused 5)
   pub totals : totalOf d (run B s cs .session) ≡ total ts
 
@@ -50,7 +50,7 @@ pub record Demand3 (B : Box) : Type 0 where
       → WellFormed (run B s cs) × (run B s cs .settings ≡ s .settings)
   -- each side's results and total agree with the account, by the premise on its own two counts: true counts, that the readings show modulo
   -- 2^32, and that neither fall nor grow by 2^32 or more from one accepted reply to the next
-  pub side : (d : Side) (n : ℕ) (s : State) (cs : List Call) (es : List Event) (ts : List Truth) → SinceClear n s cs es
+  pub side : (d : LossEnd) (n : ℕ) (s : State) (cs : List Call) (es : List Event) (ts : List Truth) → SinceClear n s cs es
       → Shows d (accepted n es) ts → Sound ts → Agrees B d n s cs es ts
   -- whatever the readings, each accepted reply is answered
   pub answered : (n : ℕ) (s : State) (cs : List Call) (es : List Event) → SinceClear n s cs es → Each Measured (take most (said B s cs es))

@@ -2,7 +2,7 @@
 use Prim.Native.Nat.{ℕ, _+_, _%_, _^_}
 use mathlib.Core.Path.{_≡_}
 use mathlib.Core.List.{List}
-use Rattle.loss_session.specs.Session.{Side, totalOf}
+use Rattle.loss_session.specs.Session.{LossEnd, totalOf}
 use Rattle.state_view.specs.State.{State}
 use Rattle.state_view.specs.WellFormed.{WellFormed}
 use Rattle.paper_said.specs.Calls.{Call, clear, OnWire, NoSetting, Box}
@@ -42,7 +42,7 @@ FromAnyClear = (B : Box) → Demand3 B → (n m : ℕ) (s : State) (before : Lis
 -- two boxes say the same to every good reply of a run, and hold the same totals and intervals behind it
 pub record Alike (B C : Box) (s : State) (cs : List Call) (es : List Event) : Type 0 where
   pub results : said B s cs es ≡ said C s cs es
-  pub totals : (d : Side) → totalOf d (run B s cs .session) ≡ totalOf d (run C s cs .session)
+  pub totals : (d : LossEnd) → totalOf d (run B s cs .session) ≡ totalOf d (run C s cs .session)
   pub intervals : run B s cs .session .intervals ≡ run C s cs .session .intervals
 
 -- any two that meet the demand, whatever the readings

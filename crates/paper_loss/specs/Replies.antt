@@ -5,7 +5,7 @@ use mathlib.Core.List.{List, [], _∷_}
 use lib.IntN.{ℤ, pos}
 use lib.ListN.{take}
 use Rattle.loss_session.specs.declared.Readings.{Readings}
-use Rattle.loss_session.specs.Session.{Side, near, far, readings, clearedSession}
+use Rattle.loss_session.specs.Session.{LossEnd, near, far, readings, clearedSession}
 use Rattle.loss_account.specs.Account.{Truth, losses}
 use Rattle.state_view.specs.State.{State}
 use Rattle.state_view.specs.WellFormed.{WellFormed}
@@ -59,7 +59,7 @@ pub data Seen : Type 0 where
   loss : ℤ → Seen
   silence : Seen
 
-abbrev pub seen : Side → Answer → Seen
+abbrev pub seen : LossEnd → Answer → Seen
 seen d (told.refused n) = refused n
 seen near (told.loss n f) = loss n
 seen far (told.loss n f) = loss f

@@ -6,7 +6,7 @@ use mathlib.Core.List.{List, [], _∷_}
 use Rattle.base_clock.specs.Run.{after}
 use Rattle.state_view.specs.State.{State}
 use Rattle.frame_measures.specs.Measures.{lossIn}
-use Rattle.paper_said.specs.Calls.{Side, active, passive, Arrival, Call, frame, clear, Answer, Box}
+use Rattle.paper_said.specs.Calls.{ArrivalSide, active, passive, Arrival, Call, frame, clear, Answer, Box}
 use Rattle.paper_said.specs.Cases.{pdu, Heeded, Counted}
 use Rattle.paper_said.specs.Taken.{LossReply}
 
@@ -32,7 +32,7 @@ NoClear c = c ≡ clear → ⊥
 -- ── what a call is ──
 
 -- the paper, rule 1: a service frame from this side, in a call that is not refused with 2, 1 or 6
-pub record CountedFrom (d : Side) (s : State) (a : Arrival) : Type 0 where
+pub record CountedFrom (d : ArrivalSide) (s : State) (a : Arrival) : Type 0 where
   pub heeded : Heeded s a
   pub service : Counted a
   pub from : a .side ≡ d

@@ -12,10 +12,12 @@ use Rattle.stored_settings.proofs.SettingsRecords.{settings-records}
 use Rattle.stored_line.proofs.LineRecords.{loss-records}
 use Rattle.state_view.specs.State.{State}
 use Rattle.state_view.specs.WellFormed.{WellFormed}
-use Rattle.paper_said.specs.Calls.{Call, new-setting, frame, tick, clear, send-LMM, send-DMM, conditions, Answer, refused, HandedOut, nothing, Outcome, leaves, OnWire, NoSetting, Box}
+use Rattle.paper_said.specs.Calls.{Call, new-setting, frame, tick, clear, send-LMM, send-DMM, conditions, Answer, refused, HandedOut}
+use Rattle.paper_said.specs.Calls.{nothing, Outcome, leaves, OnWire, NoSetting, Box}
 use Rattle.paper_said.specs.Started.{Settable}
 use Rattle.paper_said.specs.Ours.{Follows}
-use Rattle.paper_promised.specs.Refusals.{Refusal, frame-2, frame-1, frame-6, frame-3, frame-5, tick-2, tick-3, clear-2, lmm-2, lmm-3, dmm-2, dmm-6, dmm-3, setting-4, conditions-2, handed}
+use Rattle.paper_promised.specs.Refusals.{Refusal, frame-2, frame-1, frame-6, frame-3, frame-5, tick-2, tick-3, clear-2, lmm-2, lmm-3}
+use Rattle.paper_promised.specs.Refusals.{dmm-2, dmm-6, dmm-3, setting-4, conditions-2, handed}
 use Rattle.paper_promised.specs.Promised.{Promised}
 use Rattle.paper_promised.proofs.Promised.{promises}
 use Rattle.paper_loss.specs.Runs.{run, Each}
@@ -54,7 +56,8 @@ gets-2 s (send-DMM t b) none h = dmm-2 t b h
 gets-2 s conditions none h = conditions-2 h
 
 -- an outcome from its parts
-outcome : (o : Outcome) (x : Answer) (s : State) (b : List ℕ) → o .answer ≡ x → o .state ≡ s → o .buffer ≡ b → o .out ≡ nothing → o ≡ leaves x s b
+outcome : (o : Outcome) (x : Answer) (s : State) (b : List ℕ) → o .answer ≡ x → o .state ≡ s → o .buffer ≡ b → o .out ≡ nothing
+    → o ≡ leaves x s b
 outcome o x s b e f g h = made (sym e) (sym f) (sym g) (sym h)
   where
     made : {x : Answer} {s : State} {b : List ℕ} {h : HandedOut} → x ≡ o .answer → s ≡ o .state → b ≡ o .buffer → h ≡ o .out

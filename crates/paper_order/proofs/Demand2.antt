@@ -4,7 +4,6 @@ use mathlib.Core.Path.{_≡_, refl, sym, ap, _∙_}
 use mathlib.Core.List.{List}
 use lib.ListN.{length}
 use Rattle.base_laws.specs.Lists.{part}
-use Rattle.base_laws.proofs.Overlaid.{laid-back}
 use Rattle.state_view.specs.State.{State}
 use Rattle.paper_said.specs.Calls.{Arrival, Call, frame, tick, send-LMM, send-DMM, written, Outcome, OnWire, Box}
 use Rattle.paper_said.specs.Cases.{OwnLevel}

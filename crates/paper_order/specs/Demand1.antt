@@ -10,7 +10,7 @@ use Rattle.loss_reading.specs.Reading.{Sessions}
 use Rattle.loss_lent.specs.Lent.{Lends}
 use Rattle.frame_reader.specs.Numbers.{ReaderNumbers}
 use Rattle.stored_settings.specs.SettingsRecord.{SettingsRecords}
-use Rattle.stored_line.specs.Calls.{LossRecords}
+use Rattle.stored_line.specs.LineCalls.{LossRecords}
 use Rattle.state_view.specs.State.{State}
 use Rattle.state_view.specs.WellFormed.{WellFormed}
 use Rattle.paper_said.specs.Calls.{Call, new-setting, refused, nothing, leaves, hands-out, OnWire, NoSetting, Box}

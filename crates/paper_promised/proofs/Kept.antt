@@ -81,7 +81,8 @@ set-within l k v i most h g =
 set-behind : (l : List ℕ) (k v i count : ℕ) → k < count → count ≤ i → getD l i 0 ≡ 0 → getD (set l k v) i 0 ≡ 0
 set-behind l k v i count h c e = getD-set-other l k i v 0 (λ x. omega (arith, h, c, x)) ∙ e
 
-pub heard-well : (s : State) (k v flag : ℕ) → k < s .settings .count → v ≤ ownMost s → flag ≤ 1 → WellFormed s → WellFormed (heard k v flag s)
+pub heard-well : (s : State) (k v flag : ℕ) → k < s .settings .count → v ≤ ownMost s → flag ≤ 1 → WellFormed s
+    → WellFormed (heard k v flag s)
 heard-well s k v flag used h f w = record {
   settings = w .settings;
   timers = λ i. set-within (s .timers) k v i (ownMost s) h (w .timers i);

@@ -9,7 +9,6 @@ use Rattle.paper_said.specs.Said as said
 use Rattle.paper_said.specs.Handling as handling
 use Rattle.paper_said.specs.Called as calling
 use Rattle.paper_said.specs.Ours.{ours, Follows}
-use Rattle.paper_promised.specs.Refusals.{handed}
 use Rattle.paper_promised.specs.Promised.{Promised, Promises}
 use Rattle.paper_said.proofs.Follows.{ours-follows}
 use Rattle.paper_said.proofs.Every.{every-call}
@@ -40,7 +39,8 @@ promised B F = record {
   left = λ s c n u e. let x = every-call s c u in let y = F .follows s c (x .0) u (x .1) in
       rw y (left (x .1) n (sym (ap (λ (o : Outcome). o .answer) y) ∙ e));
   hands-nothing = λ s c u k. let x = every-call s c u in
-      ap (λ (o : Outcome). o .out) (F .follows s c (x .0) u (x .1) ∙ sym (ours-follows .box .follows s c (x .0) u (x .1))) ∙ nothing-out s c k;
+      ap (λ (o : Outcome). o .out) (F .follows s c (x .0) u (x .1) ∙ sym (ours-follows .box .follows s c (x .0) u (x .1)))
+      ∙ nothing-out s c k;
   zeros = λ s t u h. (zeroState, zero-own, F .follows s (call.new-setting t) _ u (said.by-call (calling.setting-4 t zeroState h zero-own)));
   drops = λ s c n u e h. let x = every-call s c u in let y = F .follows s c (x .0) u (x .1) in
       rw y (drops (x .1) n (sym (ap (λ (o : Outcome). o .answer) y) ∙ e) h);
@@ -48,8 +48,10 @@ promised B F = record {
   stays = λ s c u w. let x = every-call s c u in let y = F .follows s c (x .0) u (x .1) in rw y (stays s c (x .0) u w (x .1));
   uncounted = λ s a u e. let x = every-call s (call.frame a) u in let y = F .follows s (call.frame a) (x .0) u (x .1) in
       rw y (uncounted (x .1) e);
-  never-D8 = λ s a u e. let x = every-call s (call.frame a) u in never-D8 (u .octets) (u .receive) (x .1) (sym (ap (λ (o : Outcome). o .answer) (F .follows s (call.frame a) (x .0) u (x .1))) ∙ e);
-  own-id = λ s a u c m e. F .follows s (call.frame a) _ u (said.by-rules-5-to-8 (handling.rule-5-mep a c m (λ k p. c .own .oam .heeded .well .settings .others k (p .used) (p .same ∙ e))));
+  never-D8 = λ s a u e. let x = every-call s (call.frame a) u in
+      never-D8 (u .octets) (u .receive) (x .1) (sym (ap (λ (o : Outcome). o .answer) (F .follows s (call.frame a) (x .0) u (x .1))) ∙ e);
+  own-id = λ s a u c m e. F .follows s (call.frame a) _ u
+      (said.by-rules-5-to-8 (handling.rule-5-mep a c m (λ k p. c .own .oam .heeded .well .settings .others k (p .used) (p .same ∙ e))));
 }
 
 pub promises : Promises

@@ -6,7 +6,6 @@ use native.Mathlib.Omega.{arith}
 use lib.Dec.{ltb}
 use lib.ListN.{length}
 use borrow.Author.Tests.{ltb-true, ltb-false}
-use Rattle.base_laws.proofs.Meanings.{same-is, place-holds}
 use Rattle.state_settings.specs.Settings.{Settings}
 use Rattle.state_settings.specs.Valid.{valid}
 use Rattle.state_settings.proofs.Rules.{valid-is}

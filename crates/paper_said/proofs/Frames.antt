@@ -1,7 +1,7 @@
 -- How far a frame gets in our box, stage by stage: the paper's stages (specs/Cases.antt) are the box's. Assumes nothing.
 use Prim.Native.Nat.{ℕ, _≤_, _<_}
-use mathlib.Core.Path.{_≡_, sym, ap, _∙_}
-use mathlib.Core.Bool.{true, false, true≢false}
+use mathlib.Core.Path.{_≡_, ap, _∙_}
+use mathlib.Core.Bool.{true, false}
 use mathlib.Core.Logic.{⊎-elim}
 use lib.Dec.{leb}
 use lib.ListN.{length, drop}
@@ -54,18 +54,22 @@ module _ (s : State) (a : Arrival) where
       ap (inWords frameAnswer)
       (heeded s (sideOf (a .side)) (a .octets) (a .receive) (a .transmit) (a .buffer)
       (well-formed-is .well-formed-is s .1 (h .well))
-      (join (leb 14 (length (a .octets))) (leb (length (a .octets)) 1514) (le-leb 14 (length (a .octets)) (h .long .least)) (le-leb (length (a .octets)) 1514 (h .long .most)))
-      (join (good (a .receive)) (good (a .transmit)) (le-leb (a .receive .nanoseconds) 999999999 (h .receive)) (le-leb (a .transmit .nanoseconds) 999999999 (h .transmit))))
+      (join (leb 14 (length (a .octets))) (leb (length (a .octets)) 1514) (le-leb 14 (length (a .octets)) (h .long .least))
+      (le-leb (length (a .octets)) 1514 (h .long .most)))
+      (join (good (a .receive)) (good (a .transmit)) (le-leb (a .receive .nanoseconds) 999999999 (h .receive))
+      (le-leb (a .transmit .nanoseconds) 999999999 (h .transmit))))
       ∙ ap (decided s a) e
 
   -- a frame's class decides
-  pub by : (k : Class) → classOf (s .settings .level) (sideOf (a .side)) (a .octets) ≡ k → decision s a ≡ byClass (s .settings) (sideOf (a .side)) (a .octets) (a .receive) k
+  pub by : (k : Class) → classOf (s .settings .level) (sideOf (a .side)) (a .octets) ≡ k
+      → decision s a ≡ byClass (s .settings) (sideOf (a .side)) (a .octets) (a .receive) k
   unfolding decideOf
   by k e = rw e
 
   module _ (w : OwnLevel s a) where
     own-class : classOf (s .settings .level) (sideOf (a .side)) (a .octets) ≡ class.Own
-    own-class = classes (s .settings .level) (sideOf (a .side)) (a .octets) .own (w .oam .ether) (w .oam .head) (w .level) (ap sideOf (w .side))
+    own-class =
+        classes (s .settings .level) (sideOf (a .side)) (a .octets) .own (w .oam .ether) (w .oam .head) (w .level) (ap sideOf (w .side))
 
     own-decides : decision s a ≡ ownOf (s .settings) (a .octets) (a .receive)
     unfolding byClass
@@ -82,7 +86,8 @@ module _ (s : State) (a : Arrival) where
       pub fourth : offsetOf (pdu a) < least → ownOf (s .settings) (a .octets) (a .receive) ≡ Drops drop.Offset
       unfolding dropFor
       fourth k = found-bad (s .settings) (a .octets) (a .receive) Offset (row-handled h)
-          (offset-bad (a .octets) (w .oam .heeded .long .least) (w .oam .heeded .long .most) (w .oam .ether) (w .oam .head) (row-known h) (rw (row-least h) k))
+          (offset-bad (a .octets) (w .oam .heeded .long .least) (w .oam .heeded .long .most) (w .oam .ether) (w .oam .head) (row-known h)
+          (rw (row-least h) k))
 
       module _ (k : least ≤ offsetOf (pdu a)) where
         enough : ruleOf (opcodeOf (pduOf (a .octets))) .least ≤ offsetOf (pduOf (a .octets))
@@ -91,11 +96,14 @@ module _ (s : State) (a : Arrival) where
         pub fifth : Octets (a .octets) → D5 a → ownOf (s .settings) (a .octets) (a .receive) ≡ Drops drop.CutOff
         unfolding dropFor
         fifth o n = found-bad (s .settings) (a .octets) (a .receive) CutOff (row-handled h)
-            (cut-off (a .octets) (w .oam .heeded .long .least) (w .oam .heeded .long .most) (w .oam .ether) (w .oam .head) (row-known h) enough (no-run-cuts (pdu a) (startOf (pdu a)) (behind (a .octets) 14 o) n))
+            (cut-off (a .octets) (w .oam .heeded .long .least) (w .oam .heeded .long .most) (w .oam .ether) (w .oam .head)
+            (row-known h) enough (no-run-cuts (pdu a) (startOf (pdu a)) (behind (a .octets) 14 o) n))
 
         -- the frame is a whole message: what it is, by opcode and flags
         whole-message : isCut (walkFrom 0 (startOf (pdu a)) (pdu a)) ≡ false → messageOf (a .octets) ≡ judgedOf (opcode a) (flagsOf (pdu a))
-        whole-message c = judged (a .octets) (w .oam .heeded .long .least) (w .oam .heeded .long .most) (w .oam .ether) (w .oam .head) (row-known h) enough c
+        whole-message c =
+            judged (a .octets) (w .oam .heeded .long .least) (w .oam .heeded .long .most) (w .oam .ether) (w .oam .head)
+            (row-known h) enough c
 
         pub sixth : (D5 a → ⊥) → D6 s a → ownOf (s .settings) (a .octets) (a .receive) ≡ Drops drop.Destination
         unfolding judgedOf
@@ -115,7 +123,12 @@ module _ (s : State) (a : Arrival) where
       sound-message = whole-message (q .handled) (q .offset) (uncut (pdu a) (startOf (pdu a)) (q .tlvs))
 
       pub seventh : judgedOf (opcode a) (flagsOf (pdu a)) ≡ PeriodCode → ownOf (s .settings) (a .octets) (a .receive) ≡ Drops drop.Value
-      seventh e = found-code (s .settings) (a .octets) (a .receive) (row-handled (q .handled)) (sound-message ∙ e) ∙ rw (ours-yes s a (q .destination))
+      seventh e =
+          found-code (s .settings) (a .octets) (a .receive) (row-handled (q .handled)) (sound-message ∙ e)
+          ∙ rw (ours-yes s a (q .destination))
 
-      pub handles : (k : ℕ) → judgedOf (opcode a) (flagsOf (pdu a)) ≡ Message k → ownOf (s .settings) (a .octets) (a .receive) ≡ handleOf (s .settings) (pdu a) (a .receive) (ruleOf k .handler)
-      handles k e = found-message (s .settings) (a .octets) (a .receive) k (row-handled (q .handled)) (sound-message ∙ e) ∙ rw (ours-yes s a (q .destination))
+      pub handles : (k : ℕ) → judgedOf (opcode a) (flagsOf (pdu a)) ≡ Message k
+          → ownOf (s .settings) (a .octets) (a .receive) ≡ handleOf (s .settings) (pdu a) (a .receive) (ruleOf k .handler)
+      handles k e =
+          found-message (s .settings) (a .octets) (a .receive) k (row-handled (q .handled)) (sound-message ∙ e)
+          ∙ rw (ours-yes s a (q .destination))

@@ -1,7 +1,7 @@
 -- Rule 3: a lower-level frame is remembered exactly where it is a CCM that passes D4 to D7. Assumes nothing.
 use Prim.Native.Nat.{ℕ}
 use mathlib.Core.Path.{_≡_, sym, _∙_}
-use mathlib.Core.Bool.{true, false, _&&_, false≢true}
+use mathlib.Core.Bool.{true, _&&_, false≢true}
 use native.Mathlib.Omega.{arith}
 use lib.Dec.{eqb}
 use borrow.Author.Tests.{eq-eqb, ne-eqb, eqb-true}
@@ -30,7 +30,8 @@ use Rattle.paper_said.proofs.Stamps.{untrue}
 -- a sound message is a good frame
 pub sound-good : (s : State) (a : Arrival) → Oam s a → Sound s a → Good (a .octets)
 sound-good s a o q = record {
-  headed = headed (a .octets) (o .heeded .long .least) (o .heeded .long .most) (o .ether) (o .head) (row-known (q .handled)) (rw (row-least (q .handled)) (q .offset));
+  headed = headed (a .octets) (o .heeded .long .least) (o .heeded .long .most) (o .ether) (o .head) (row-known (q .handled))
+      (rw (row-least (q .handled)) (q .offset));
   ends = uncut (pdu a) (startOf (pdu a)) (q .tlvs);
 }
 
@@ -54,15 +55,18 @@ module _ (s : State) (a : Arrival) (o : Oam s a) where
   -- such a CCM passes the box's test
   pub ccm-test : GoodCcm s a → (eqb (goodOpcode (a .octets)) 1 && isOurs (s .settings .own) (s .settings .losspeer) (a .octets)) ≡ true
   ccm-test g =
-      let op = message-numbers .opcode (a .octets) (sound-good s a o (g .sound)) (coded (opcode a) (periodCode (flagsOf (pdu a))) (g .ccm) (g .period)) in
-      join (eqb (goodOpcode (a .octets)) 1) (isOurs (s .settings .own) (s .settings .losspeer) (a .octets)) (eq-eqb (goodOpcode (a .octets)) 1 (op ∙ g .ccm)) (ours-yes s a (g .sound .destination))
+      let op = message-numbers .opcode (a .octets) (sound-good s a o (g .sound))
+      (coded (opcode a) (periodCode (flagsOf (pdu a))) (g .ccm) (g .period)) in
+      join (eqb (goodOpcode (a .octets)) 1) (isOurs (s .settings .own) (s .settings .losspeer) (a .octets))
+      (eq-eqb (goodOpcode (a .octets)) 1 (op ∙ g .ccm)) (ours-yes s a (g .sound .destination))
 
   pub remembered : GoodCcm s a → belowOf (s .settings .own) (s .settings .losspeer) (a .octets) ≡ Changes change.UnexpectedLevel
   unfolding belowOf
   remembered g = rw (ccm-test g)
 
   -- what the box remembers is such a CCM
-  pub is-ccm : Octets (a .octets) → (eqb (goodOpcode (a .octets)) 1 && isOurs (s .settings .own) (s .settings .losspeer) (a .octets)) ≡ true → GoodCcm s a
+  pub is-ccm : Octets (a .octets) → (eqb (goodOpcode (a .octets)) 1 && isOurs (s .settings .own) (s .settings .losspeer) (a .octets)) ≡ true
+      → GoodCcm s a
   is-ccm w e =
       let p = split (eqb (goodOpcode (a .octets)) 1) (isOurs (s .settings .own) (s .settings .losspeer) (a .octets)) e in
       let one : goodOpcode (a .octets) ≡ 1 = eqb-true (goodOpcode (a .octets)) 1 (p .0) in
@@ -80,6 +84,8 @@ module _ (s : State) (a : Arrival) (o : Oam s a) where
         period = coded-only (opcode a) (periodCode (flagsOf (pdu a))) op (g .2);
       }
 
-  pub not-remembered : Octets (a .octets) → (GoodCcm s a → ⊥) → belowOf (s .settings .own) (s .settings .losspeer) (a .octets) ≡ Drops drop.Level
+  pub not-remembered : Octets (a .octets) → (GoodCcm s a → ⊥)
+      → belowOf (s .settings .own) (s .settings .losspeer) (a .octets) ≡ Drops drop.Level
   unfolding belowOf
-  not-remembered w n = rw (untrue (eqb (goodOpcode (a .octets)) 1 && isOurs (s .settings .own) (s .settings .losspeer) (a .octets)) (λ e. n (is-ccm w e)))
+  not-remembered w n =
+      rw (untrue (eqb (goodOpcode (a .octets)) 1 && isOurs (s .settings .own) (s .settings .losspeer) (a .octets)) (λ e. n (is-ccm w e)))

@@ -36,12 +36,12 @@ module _ (s : State) (a : Arrival) where
   pub received : Heeded s a → (etherTypeOf (a .octets) ≡ 0x8902 → ⊥) → a .side ≡ call.active
       → ours s (call.frame a) ≡ leaves passed (put word.received ((s .received + 1) % 2 ^ 32) s) (a .buffer)
   unfolding countOf carriedOut applied
-  received h n e = service h n ∙ ap (λ (x : call.Side). decided s a (Changes (countOf (sideOf x)))) e
+  received h n e = service h n ∙ ap (λ (x : call.ArrivalSide). decided s a (Changes (countOf (sideOf x)))) e
 
   pub sent : Heeded s a → (etherTypeOf (a .octets) ≡ 0x8902 → ⊥) → a .side ≡ call.passive
       → ours s (call.frame a) ≡ leaves passed (put word.sent ((s .sent + 1) % 2 ^ 32) s) (a .buffer)
   unfolding countOf carriedOut applied
-  sent h n e = service h n ∙ ap (λ (x : call.Side). decided s a (Changes (countOf (sideOf x)))) e
+  sent h n e = service h n ∙ ap (λ (x : call.ArrivalSide). decided s a (Changes (countOf (sideOf x)))) e
 
   pub short : Heeded s a → etherTypeOf (a .octets) ≡ 0x8902 → length (a .octets) < 18
       → ours s (call.frame a) ≡ leaves (dropped 1) s (a .buffer)

@@ -71,7 +71,8 @@ unless (tlv.Bad b) m e = absurd (false≢true (sym e))
 unless tlv.NoSuch m e = refl
 unless tlv.Value m e = refl
 
-module _ (f : List ℕ) (long : 14 ≤ length f) (most : length f ≤ 1514) (oam : etherTypeOf f ≡ 0x8902) (head : 18 ≤ length f) (k : ruleOf (opcodeOf (pduOf f)) .known ≡ true) where
+module _ (f : List ℕ) (long : 14 ≤ length f) (most : length f ≤ 1514) (oam : etherTypeOf f ≡ 0x8902) (head : 18 ≤ length f)
+    (k : ruleOf (opcodeOf (pduOf f)) .known ≡ true) where
   four : 4 ≤ length (pduOf f)
   four = rw (length-drop 14 f) (omega arith)
 
@@ -85,8 +86,15 @@ module _ (f : List ℕ) (long : 14 ≤ length f) (most : length f ≤ 1514) (oam
 
     pub cut-off : isCut (walkFrom 0 (startOf (pduOf f)) (pduOf f)) ≡ true → messageOf f ≡ Bad CutOff
     unfolding messageOf answerOf
-    cut-off c = rw (seek-tlvs f 0 (startOf (pduOf f)) (frame-oam f long most oam ∙ pdu-tlvs (pduOf f) four k h), whole-cut (walkFrom 0 (startOf (pduOf f)) (pduOf f)) (walkFrom 0 (startOf (pduOf f)) (pduOf f)) c)
+    cut-off c =
+        rw (
+          seek-tlvs f 0 (startOf (pduOf f)) (frame-oam f long most oam ∙ pdu-tlvs (pduOf f) four k h),
+          whole-cut
+              (walkFrom 0 (startOf (pduOf f)) (pduOf f)) (walkFrom 0 (startOf (pduOf f)) (pduOf f)) c,
+        )
 
     pub judged : isCut (walkFrom 0 (startOf (pduOf f)) (pduOf f)) ≡ false → messageOf f ≡ judgedOf (opcodeOf (pduOf f)) (flagsOf (pduOf f))
     unfolding messageOf
-    judged c = unless (answerOf f 0) (judgedOf (opcodeOf (pduOf f)) (flagsOf (pduOf f))) (good-frames .read f 0 .1 (record { headed = headed; ends = c }))
+    judged c =
+        unless (answerOf f 0) (judgedOf (opcodeOf (pduOf f)) (flagsOf (pduOf f)))
+        (good-frames .read f 0 .1 (record { headed = headed; ends = c }))

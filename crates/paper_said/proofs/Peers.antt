@@ -40,7 +40,8 @@ module _ (s : State) (v : Valid (s .settings)) where
       let u = usedPeers (s .settings) in
       let j = placeOf id u in
       let here : getD u k 0 ≡ id = used-at k (p .used) ∙ p .same in
-      let late : j ≤ k = ⊎-elim (λ (t : ltb k j ≡ true). absurd (place-first id u k (ltb-true k j t) here)) (λ (t : ltb k j ≡ false). ltb-false k j t) (if-known (ltb k j)) in
+      let late : j ≤ k = ⊎-elim (λ (t : ltb k j ≡ true). absurd (place-first id u k (ltb-true k j t) here))
+      (λ (t : ltb k j ≡ false). ltb-false k j t) (if-known (ltb k j)) in
       ⊎-elim
       (λ (t : ltb j k ≡ true).
       let less : j < k = ltb-true j k t in
@@ -53,7 +54,9 @@ module _ (s : State) (v : Valid (s .settings)) where
   not-found : (id : ℕ) → ((k : ℕ) → PeerAt s k id → ⊥) → length (usedPeers (s .settings)) ≤ placeOf id (usedPeers (s .settings))
   not-found id n =
       let u = usedPeers (s .settings) in
-      let none : absent id u ≡ true = absent-is id u .1 (λ i h e. let c : i < s .settings .count = omega (arith, h, used-long) in n i (record { used = c; same = sym (used-at i c) ∙ e })) in
+      let none : absent id u ≡ true = absent-is id u .1
+      (λ i h e. let c : i < s .settings .count = omega (arith, h, used-long) in n i (record { used = c; same = sym (used-at i c) ∙ e }))
+      in
       let e : placeOf id u ≡ length u = place-absent id u .1 none in
       omega (arith, e)
 
@@ -65,7 +68,12 @@ module _ (s : State) (v : Valid (s .settings)) where
     module _ (m : megIn p ≡ s .settings .meg) where
       pub signal-mep : ((k : ℕ) → PeerAt s k (ccmIn p .mep) → ⊥) → ccmSignal (s .settings) p ≡ UnexpectedMep
       unfolding ccmSignal choose
-      signal-mep n = rw (same-is (megIn p) (s .settings .meg) .1 m, le-leb (length (usedPeers (s .settings))) (slotOf (s .settings) p) (not-found (ccmIn p .mep) n))
+      signal-mep n =
+          rw (
+            same-is (megIn p) (s .settings .meg) .1 m,
+            le-leb (length (usedPeers (s .settings))) (slotOf (s .settings) p)
+                (not-found (ccmIn p .mep) n),
+          )
 
       module _ (k : ℕ) (at : PeerAt s k (ccmIn p .mep)) where
         slot-is : slotOf (s .settings) p ≡ k
@@ -76,8 +84,20 @@ module _ (s : State) (v : Valid (s .settings)) where
 
         pub signal-peer : ccmIn p .period ≡ s .settings .period → ccmSignal (s .settings) p ≡ Heard k (ccmIn p .rdi)
         unfolding ccmSignal choose
-        signal-peer e = rw (same-is (megIn p) (s .settings .meg) .1 m, lt-leb (length (usedPeers (s .settings))) (slotOf (s .settings) p) inside, eq-eqb (ccmIn p .period) (s .settings .period) e) (ap (λ (j : ℕ). Heard j (ccmIn p .rdi)) slot-is)
+        signal-peer e =
+            rw (
+              same-is (megIn p) (s .settings .meg) .1 m,
+              lt-leb (length (usedPeers (s .settings))) (slotOf (s .settings) p) inside,
+              eq-eqb
+                  (ccmIn p .period) (s .settings .period) e,
+            ) (ap (λ (j : ℕ). Heard j (ccmIn p .rdi)) slot-is)
 
         pub signal-period : (ccmIn p .period ≡ s .settings .period → ⊥) → ccmSignal (s .settings) p ≡ UnexpectedPeriod k (ccmIn p .rdi)
         unfolding ccmSignal choose
-        signal-period e = rw (same-is (megIn p) (s .settings .meg) .1 m, lt-leb (length (usedPeers (s .settings))) (slotOf (s .settings) p) inside, ne-eqb (ccmIn p .period) (s .settings .period) e) (ap (λ (j : ℕ). UnexpectedPeriod j (ccmIn p .rdi)) slot-is)
+        signal-period e =
+            rw (
+              same-is (megIn p) (s .settings .meg) .1 m,
+              lt-leb (length (usedPeers (s .settings))) (slotOf (s .settings) p) inside,
+              ne-eqb
+                  (ccmIn p .period) (s .settings .period) e,
+            ) (ap (λ (j : ℕ). UnexpectedPeriod j (ccmIn p .rdi)) slot-is)

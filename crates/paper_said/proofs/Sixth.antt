@@ -2,7 +2,6 @@
 use mathlib.Core.Path.{_≡_, refl, sym, ap, _∙_}
 use mathlib.Core.Bool.{Bool, true, false, not, _&&_, false≢true, true≢false}
 use mathlib.Core.Logic.{⊎-elim, _⊎_, inl, inr}
-use lib.Dec.{eqb}
 use borrow.Author.Tests.{eqb-true, eq-eqb, not-true, not-false}
 use Rattle.base_laws.specs.Lists.{same}
 use Rattle.base_laws.proofs.Meanings.{same-is}
@@ -37,17 +36,25 @@ module _ (s : State) (a : Arrival) where
   from = goodSource (s .settings .losspeer) (ruleOf (opcode a) .losspeer) (ruleOf (opcode a) .request) (sourceOf (a .octets))
 
   to-good : GoodDestination s a → to ≡ true
-  to-good (own e) = either-true (same (destinationOf (a .octets)) (s .settings .own)) (ruleOf (opcode a) .multicast && same (destinationOf (a .octets)) (multicastOf (level a))) .1 (inl (same-is (destinationOf (a .octets)) (s .settings .own) .1 e))
-  to-good (group o e) = either-true (same (destinationOf (a .octets)) (s .settings .own)) (ruleOf (opcode a) .multicast && same (destinationOf (a .octets)) (multicastOf (level a))) .1 (inr (join _ _ (multicast-yes (opcode a) o) (same-is (destinationOf (a .octets)) (multicastOf (level a)) .1 e)))
+  to-good (own e) =
+      either-true (same (destinationOf (a .octets)) (s .settings .own))
+      (ruleOf (opcode a) .multicast && same (destinationOf (a .octets)) (multicastOf (level a))) .1
+      (inl (same-is (destinationOf (a .octets)) (s .settings .own) .1 e))
+  to-good (group o e) =
+      either-true (same (destinationOf (a .octets)) (s .settings .own))
+      (ruleOf (opcode a) .multicast && same (destinationOf (a .octets)) (multicastOf (level a))) .1
+      (inr (join _ _ (multicast-yes (opcode a) o) (same-is (destinationOf (a .octets)) (multicastOf (level a)) .1 e)))
 
   good-to : to ≡ true → GoodDestination s a
   good-to e =
       ⊎-elim
-      (λ (t : same (destinationOf (a .octets)) (s .settings .own) ≡ true). own (same-is (destinationOf (a .octets)) (s .settings .own) .0 t))
+      (λ (t : same (destinationOf (a .octets)) (s .settings .own) ≡ true). own
+      (same-is (destinationOf (a .octets)) (s .settings .own) .0 t))
       (λ (t : (ruleOf (opcode a) .multicast && same (destinationOf (a .octets)) (multicastOf (level a))) ≡ true).
       let p = split _ _ t in
       group (multicast-only (opcode a) (p .0)) (same-is (destinationOf (a .octets)) (multicastOf (level a)) .0 (p .1)))
-      (either-true (same (destinationOf (a .octets)) (s .settings .own)) (ruleOf (opcode a) .multicast && same (destinationOf (a .octets)) (multicastOf (level a))) .0 e)
+      (either-true (same (destinationOf (a .octets)) (s .settings .own))
+      (ruleOf (opcode a) .multicast && same (destinationOf (a .octets)) (multicastOf (level a))) .0 e)
 
   -- what holds a source back
   source-bad : from ≡ false → D6 s a
@@ -58,7 +65,8 @@ module _ (s : State) (a : Arrival) where
       group-source (request-only (opcode a) (p .0)) (eqb-true (groupBit (sourceOf (a .octets))) 1 (p .1)))
       (λ (t : not (ruleOf (opcode a) .losspeer && not (same (sourceOf (a .octets)) (s .settings .losspeer))) ≡ false).
       let p = split _ _ (not-false _ t) in
-      stranger (losspeer-only (opcode a) (p .0)) (λ h. true≢false (sym (same-is (sourceOf (a .octets)) (s .settings .losspeer) .1 h) ∙ not-true _ (p .1))))
+      stranger (losspeer-only (opcode a) (p .0)) (λ h. true≢false
+      (sym (same-is (sourceOf (a .octets)) (s .settings .losspeer) .1 h) ∙ not-true _ (p .1))))
       (either-fails _ _ e)
 
   pub ours-yes : (D6 s a → ⊥) → isOurs (s .settings .own) (s .settings .losspeer) (a .octets) ≡ true
@@ -72,11 +80,16 @@ module _ (s : State) (a : Arrival) where
   held : D6 s a → to ≡ true → from ≡ true → ⊥
   held (destination n) t u = n (good-to t)
   held (group-source o g) t u =
-      let p = split (not (ruleOf (opcode a) .request && hasGroupBit (sourceOf (a .octets)))) (not (ruleOf (opcode a) .losspeer && not (same (sourceOf (a .octets)) (s .settings .losspeer)))) u in
-      false≢true (sym (not-true _ (p .0)) ∙ join (ruleOf (opcode a) .request) (hasGroupBit (sourceOf (a .octets))) (request-yes (opcode a) o) (eq-eqb (groupBit (sourceOf (a .octets))) 1 g))
+      let p = split (not (ruleOf (opcode a) .request && hasGroupBit (sourceOf (a .octets))))
+      (not (ruleOf (opcode a) .losspeer && not (same (sourceOf (a .octets)) (s .settings .losspeer)))) u in
+      false≢true (sym (not-true _ (p .0)) ∙ join (ruleOf (opcode a) .request) (hasGroupBit (sourceOf (a .octets)))
+      (request-yes (opcode a) o) (eq-eqb (groupBit (sourceOf (a .octets))) 1 g))
   held (stranger o n) t u =
-      let p = split (not (ruleOf (opcode a) .request && hasGroupBit (sourceOf (a .octets)))) (not (ruleOf (opcode a) .losspeer && not (same (sourceOf (a .octets)) (s .settings .losspeer)))) u in
-      false≢true (sym (not-true _ (p .1)) ∙ join (ruleOf (opcode a) .losspeer) (not (same (sourceOf (a .octets)) (s .settings .losspeer))) (losspeer-yes (opcode a) o) (ap not (untrue (same (sourceOf (a .octets)) (s .settings .losspeer)) (λ e. n (same-is (sourceOf (a .octets)) (s .settings .losspeer) .0 e)))))
+      let p = split (not (ruleOf (opcode a) .request && hasGroupBit (sourceOf (a .octets))))
+      (not (ruleOf (opcode a) .losspeer && not (same (sourceOf (a .octets)) (s .settings .losspeer)))) u in
+      false≢true (sym (not-true _ (p .1)) ∙ join (ruleOf (opcode a) .losspeer) (not (same (sourceOf (a .octets)) (s .settings .losspeer)))
+      (losspeer-yes (opcode a) o) (ap not (untrue (same (sourceOf (a .octets)) (s .settings .losspeer))
+      (λ e. n (same-is (sourceOf (a .octets)) (s .settings .losspeer) .0 e)))))
 
   pub ours-no : D6 s a → isOurs (s .settings .own) (s .settings .losspeer) (a .octets) ≡ false
   unfolding forUs

@@ -4,7 +4,7 @@ use mathlib.Core.Bool.{Bool, true, false, true≢false}
 use mathlib.Core.Logic.{⊎-elim, _⊎_, inl, inr}
 use Rattle.base_laws.proofs.Tests.{known as if-known}
 use Rattle.state_view.specs.State.{State}
-use Rattle.paper_said.specs.Calls.{Side, active, passive, Call, Outcome}
+use Rattle.paper_said.specs.Calls.{ArrivalSide, active, passive, Call, Outcome}
 use Rattle.paper_said.specs.Said.{Said}
 
 -- what the paper says of a call, whatever it is
@@ -18,6 +18,6 @@ split b true-then false-then = ⊎-elim true-then false-then (if-known b)
 pub clash : {b : Bool} {X : Type 0} → b ≡ true → b ≡ false → X
 clash t f = absurd (true≢false (sym t ∙ f))
 
-pub either : (d : Side) → (d ≡ active) ⊎ (d ≡ passive)
+pub either : (d : ArrivalSide) → (d ≡ active) ⊎ (d ≡ passive)
 either active = inl refl
 either passive = inr refl

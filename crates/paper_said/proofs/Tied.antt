@@ -15,9 +15,9 @@ use Rattle.receive_class.specs.declared.Side.{Side}
 use Rattle.receive_class.specs.declared.Side.the-variants as side
 use Rattle.call_setting.specs.declared.SettingAnswer.{SettingAnswer}
 use Rattle.call_setting.specs.declared.SettingTold.{SettingTold}
-use Rattle.call_setting.specs.Told.{told}
+use Rattle.call_setting.specs.Told.{settingTold}
 use Rattle.call_setting.specs.declared.Started.{Started}
-use Rattle.call_setting.specs.Start.{startOf, zeroState, afterSetting, answerOf, numbersOf}
+use Rattle.call_setting.specs.Start.{startOf, zeroState, afterSetting, answerOf, settingNumbers}
 use Rattle.call_setting.proofs.Starts.{starts}
 use Rattle.call_setting.proofs.new_setting.Reads as new-setting
 use Rattle.receive_frame.specs.Frame.{frameOf}
@@ -37,7 +37,7 @@ use Rattle.paper_said.specs.Ours.{inWords}
 use Rattle.paper_said.proofs.Follows.{ours-follows}
 
 -- the side of a call, from the function's
-abbrev pub sideIn : Side → call.Side
+abbrev pub sideIn : Side → call.ArrivalSide
 sideIn side.Active = call.active
 sideIn side.Passive = call.passive
 
@@ -100,7 +100,7 @@ from-arrays words names ids h w = record {
 
 -- what our box leaves of a new setting is what a caller holds who takes over what is handed out
 pub taken-over : (before : State) (t : Settings)
-    → takenOver before (numbersOf t .refusal) (afterSetting t) ≡ cond (valid t) (startOf t) before
+    → takenOver before (settingNumbers t .refusal) (afterSetting t) ≡ cond (valid t) (startOf t) before
 taken-over before t = by (valid t)
   where
     by : (b : Bool)
@@ -114,14 +114,15 @@ taken-over before t = by (valid t)
 pub new-setting-follows : (κs : _) (a : _) (r : _) (s : _) → new-setting.Post κs a r s → Octets (now (a .1 .0))
     → (before : State) (o : Outcome)
     → Said before (call.new-setting (settingsOf (now (a .0)) (now (a .1 .0)) (now (a .1 .1 .0)))) o
-    → hands-out (settingAnswer (r .answer)) (takenOver before (told (r .answer) .refusal) (shown (r .state))) (shown (r .state)) ≡ o
+    → hands-out (settingAnswer (r .answer)) (takenOver before (settingTold (r .answer) .refusal) (shown (r .state))) (shown (r .state)) ≡ o
 new-setting-follows κs a r s p w before o q =
     let (set, (names, (ids, _))) = a in
     let t = settingsOf (now set) (now names) (now ids) in
     let answer = ap (λ (x : Started). x .answer) (p .0) ∙ starts .answers _ _ _ in
     let number = ap (λ (x : SettingTold). x .refusal) (p .1 .0) in
     let out = ap (λ (x : Started). shown (x .state)) (p .0) ∙ starts .hands-out _ _ _ in
-    ap₂ (λ (x : SettingAnswer) (y : State). hands-out (settingAnswer x) (takenOver before (told (r .answer) .refusal) y) y) answer out
+    ap₂ (λ (x : SettingAnswer) (y : State). hands-out (settingAnswer x) (takenOver before (settingTold (r .answer) .refusal) y) y) answer
+    out
     ∙ ap (λ (n : ℕ). hands-out (settingAnswer (answerOf t)) (takenOver before n (afterSetting t)) (afterSetting t)) number
     ∙ ap (λ (x : State). hands-out (settingAnswer (answerOf t)) x (afterSetting t)) (taken-over before t)
     ∙ ours-follows .box .follows before _ o (from-arrays (now set) (now names) (now ids) (p .1 .1) w) q

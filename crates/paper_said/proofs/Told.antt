@@ -17,15 +17,15 @@ use Rattle.call_send_answer.specs.declared.LmmAnswer.the-variants as lmm
 use Rattle.call_send_answer.specs.declared.DmmAnswer.{DmmAnswer}
 use Rattle.call_send_answer.specs.declared.DmmAnswer.the-variants as dmm
 use Rattle.paper_said.specs.Words.{settingAnswer, frameAnswer, clearAnswer, tickAnswer, lmmAnswer, dmmAnswer}
-use Rattle.paper_said.specs.Told.{counted, numbersOf, frameNumbers, ToldAlike}
+use Rattle.paper_said.specs.Told.{counted, answerNumbers, frameAsNumbers, ToldAlike}
 
-of-setting : (r : SettingAnswer) → counted (Setting.told r .refusal) 0 0 ≡ numbersOf (settingAnswer r)
-unfolding Setting.told
+of-setting : (r : SettingAnswer) → counted (Setting.settingTold r .refusal) 0 0 ≡ answerNumbers (settingAnswer r)
+unfolding Setting.settingTold
 of-setting setting.Invalid = refl
 of-setting setting.Set = refl
 
-of-frame : (r : FrameAnswer) → frameNumbers (Frame.told r) ≡ numbersOf (frameAnswer r)
-unfolding Frame.told
+of-frame : (r : FrameAnswer) → frameAsNumbers (Frame.frameTold r) ≡ answerNumbers (frameAnswer r)
+unfolding Frame.frameTold
 of-frame answer.NotWellFormed = refl
 of-frame answer.BadLength = refl
 of-frame answer.BadStamp = refl
@@ -40,25 +40,25 @@ of-frame (answer.Measured near far) = refl
 of-frame (answer.TwoWay twoway) = refl
 of-frame (answer.AllWays twoway far near) = refl
 
-of-tick : (r : TickAnswer) → counted (tickTold r .refusal) 0 (tickTold r .length) ≡ numbersOf (tickAnswer r)
+of-tick : (r : TickAnswer) → counted (tickTold r .refusal) 0 (tickTold r .length) ≡ answerNumbers (tickAnswer r)
 unfolding tickTold
 of-tick ticked.NotWellFormed = refl
 of-tick ticked.NoRoom = refl
 of-tick ticked.Quiet = refl
 of-tick (ticked.Sent n) = refl
 
-of-clear : (r : ClearAnswer) → counted (Clear.told r .refusal) 0 0 ≡ numbersOf (clearAnswer r)
-unfolding Clear.told
+of-clear : (r : ClearAnswer) → counted (Clear.clearTold r .refusal) 0 0 ≡ answerNumbers (clearAnswer r)
+unfolding Clear.clearTold
 of-clear cleared.NotWellFormed = refl
 of-clear cleared.Cleared = refl
 
-of-lmm : (r : LmmAnswer) → counted (lmmTold r .refusal) 0 (lmmTold r .length) ≡ numbersOf (lmmAnswer r)
+of-lmm : (r : LmmAnswer) → counted (lmmTold r .refusal) 0 (lmmTold r .length) ≡ answerNumbers (lmmAnswer r)
 unfolding lmmTold
 of-lmm lmm.NotWellFormed = refl
 of-lmm lmm.NoRoom = refl
 of-lmm (lmm.Sent n) = refl
 
-of-dmm : (r : DmmAnswer) → counted (dmmTold r .refusal) 0 (dmmTold r .length) ≡ numbersOf (dmmAnswer r)
+of-dmm : (r : DmmAnswer) → counted (dmmTold r .refusal) 0 (dmmTold r .length) ≡ answerNumbers (dmmAnswer r)
 unfolding dmmTold
 of-dmm dmm.NotWellFormed = refl
 of-dmm dmm.BadStamp = refl

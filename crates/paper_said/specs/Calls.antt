@@ -10,13 +10,13 @@ use Rattle.base_stamp.specs.Stamps.{Wire}
 use Rattle.base_stamp.specs.declared.Stamp.{Stamp}
 
 -- where a frame comes from: active is the fibre, passive the equipment behind the box
-pub data Side : Type 0 where
-  active : Side
-  passive : Side
+pub data ArrivalSide : Type 0 where
+  active : ArrivalSide
+  passive : ArrivalSide
 
 -- a frame as it comes: from which side, its octets, the caller's two stamps, and the buffer for a reply
 pub record Arrival : Type 0 where
-  pub side : Side
+  pub side : ArrivalSide
   pub octets : List ℕ
   pub receive : Stamp
   pub transmit : Stamp

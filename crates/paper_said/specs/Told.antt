@@ -31,21 +31,21 @@ pub record Numbers : Type 0 where
 abbrev pub counted : ℕ → ℕ → ℕ → Numbers
 counted refusal drop length = record { refusal = refusal; drop = drop; length = length; near = pos 0; far = pos 0; twoway = pos 0; onewayfar = pos 0; onewaynear = pos 0 }
 
-abbrev pub numbersOf : Answer → Numbers
-numbersOf (refused n) = counted n 0 0
-numbersOf (dropped n) = counted 0 n 0
-numbersOf passed = counted 0 0 0
-numbersOf taken = counted 0 0 0
-numbersOf (written n) = counted 0 0 n
-numbersOf (loss n f) = record { refusal = 0; drop = 0; length = 0; near = n; far = f; twoway = pos 0; onewayfar = pos 0; onewaynear = pos 0 }
-numbersOf (delay t) = record { refusal = 0; drop = 0; length = 0; near = pos 0; far = pos 0; twoway = t; onewayfar = pos 0; onewaynear = pos 0 }
-numbersOf (delays t f n) = record { refusal = 0; drop = 0; length = 0; near = pos 0; far = pos 0; twoway = t; onewayfar = f; onewaynear = n }
-numbersOf done = counted 0 0 0
-numbersOf (standing r) = counted 0 0 0
+abbrev pub answerNumbers : Answer → Numbers
+answerNumbers (refused n) = counted n 0 0
+answerNumbers (dropped n) = counted 0 n 0
+answerNumbers passed = counted 0 0 0
+answerNumbers taken = counted 0 0 0
+answerNumbers (written n) = counted 0 0 n
+answerNumbers (loss n f) = record { refusal = 0; drop = 0; length = 0; near = n; far = f; twoway = pos 0; onewayfar = pos 0; onewaynear = pos 0 }
+answerNumbers (delay t) = record { refusal = 0; drop = 0; length = 0; near = pos 0; far = pos 0; twoway = t; onewayfar = pos 0; onewaynear = pos 0 }
+answerNumbers (delays t f n) = record { refusal = 0; drop = 0; length = 0; near = pos 0; far = pos 0; twoway = t; onewayfar = f; onewaynear = n }
+answerNumbers done = counted 0 0 0
+answerNumbers (standing r) = counted 0 0 0
 
 -- what a frame is told, in these words; but for what was done, which tells a first reading from an interval without loss
-abbrev pub frameNumbers : FrameTold → Numbers
-frameNumbers t = record {
+abbrev pub frameAsNumbers : FrameTold → Numbers
+frameAsNumbers t = record {
   refusal = t .refusal;
   drop = t .drop;
   length = t .length;
@@ -57,9 +57,9 @@ frameNumbers t = record {
 }
 
 pub record ToldAlike : Type 0 where
-  pub setting : (r : SettingAnswer) → counted (Setting.told r .refusal) 0 0 ≡ numbersOf (settingAnswer r)
-  pub frame : (r : FrameAnswer) → frameNumbers (Frame.told r) ≡ numbersOf (frameAnswer r)
-  pub tick : (r : TickAnswer) → counted (tickTold r .refusal) 0 (tickTold r .length) ≡ numbersOf (tickAnswer r)
-  pub clear : (r : ClearAnswer) → counted (Clear.told r .refusal) 0 0 ≡ numbersOf (clearAnswer r)
-  pub lmm : (r : LmmAnswer) → counted (lmmTold r .refusal) 0 (lmmTold r .length) ≡ numbersOf (lmmAnswer r)
-  pub dmm : (r : DmmAnswer) → counted (dmmTold r .refusal) 0 (dmmTold r .length) ≡ numbersOf (dmmAnswer r)
+  pub setting : (r : SettingAnswer) → counted (Setting.settingTold r .refusal) 0 0 ≡ answerNumbers (settingAnswer r)
+  pub frame : (r : FrameAnswer) → frameAsNumbers (Frame.frameTold r) ≡ answerNumbers (frameAnswer r)
+  pub tick : (r : TickAnswer) → counted (tickTold r .refusal) 0 (tickTold r .length) ≡ answerNumbers (tickAnswer r)
+  pub clear : (r : ClearAnswer) → counted (Clear.clearTold r .refusal) 0 0 ≡ answerNumbers (clearAnswer r)
+  pub lmm : (r : LmmAnswer) → counted (lmmTold r .refusal) 0 (lmmTold r .length) ≡ answerNumbers (lmmAnswer r)
+  pub dmm : (r : DmmAnswer) → counted (dmmTold r .refusal) 0 (dmmTold r .length) ≡ answerNumbers (dmmAnswer r)

@@ -24,7 +24,7 @@ use Rattle.state_view.specs.State.{State}
 use Rattle.paper_said.specs.Calls as call
 use Rattle.paper_said.specs.Calls.{Answer, refused, dropped, passed, taken, written, loss, delay, delays, done, standing, Raised}
 
-abbrev pub sideOf : call.Side → Side
+abbrev pub sideOf : call.ArrivalSide → Side
 sideOf call.active = side.Active
 sideOf call.passive = side.Passive
 

@@ -1,4 +1,5 @@
--- The frame rules read nothing of a state but its settings and whether it is well formed: what holds in one state holds in another of the same
+-- The frame rules read nothing of a state but its settings and whether it is well formed: what holds in one state holds in another of the
+-- same
 -- settings. Assumes nothing.
 use Prim.Native.Nat.{ℕ}
 use mathlib.Core.Path.{_≡_, sym, ap, _∙_}
@@ -25,7 +26,14 @@ d6-moves e (group-source o g) = group-source o g
 d6-moves e (stranger o n) = stranger o (λ q. n (q ∙ sym (ap (λ (t : Settings). t .losspeer) e)))
 
 pub sound-moves : {s u : State} → s .settings ≡ u .settings → {a : Arrival} → Sound s a → Sound u a
-sound-moves e x = record { least = x .least; handled = x .handled; offset = x .offset; tlvs = x .tlvs; destination = λ d. x .destination (d6-moves (sym e) d) }
+sound-moves e x =
+    record {
+      least = x .least;
+      handled = x .handled;
+      offset = x .offset;
+      tlvs = x .tlvs;
+      destination = λ d. x .destination (d6-moves (sym e) d);
+    }
 
 pub good-moves : {s u : State} → s .settings ≡ u .settings → {a : Arrival} → GoodCcm s a → GoodCcm u a
 good-moves e x = record { sound = sound-moves e (x .sound); ccm = x .ccm; period = x .period }

@@ -1,4 +1,5 @@
--- Runs of calls: as events of a timer that they do not set, in two parts; and that each tick has room where the state that it meets asks for
+-- Runs of calls: as events of a timer that they do not set, in two parts; and that each tick has room where the state that it meets asks
+-- for
 -- it. Assumes nothing.
 use Prim.Native.Nat.{ℕ, zero, suc, _≤_, _∣_}
 use mathlib.Core.Path.{_≡_, refl, sym, ap, subst, _∙_}
@@ -96,7 +97,8 @@ module _ {B : Box} (F : Follows B) {t : Settings} (v : Valid t) where
   pub some-tick : 1 ≤ ticksOf (t .period)
   some-tick = period-laws .some (t .period) .1 (v .some-period, v .period)
 
-  one-more : (c : Call) (cs : List Call) (s : State) (n : ℕ) → Holds t s → Good s c → counted (ticksOf (t .period)) (s .next) (passing c) ≡ n
+  one-more : (c : Call) (cs : List Call) (s : State) (n : ℕ) → Holds t s → Good s c
+      → counted (ticksOf (t .period)) (s .next) (passing c) ≡ n
       → ((z : State) → Holds t z → z .next ≡ n → AllGood (step B) Good z cs) → Good s c × AllGood (step B) Good (step B s c) cs
   one-more c cs s n H g e rest = (g, rest (step B s c) (stays F v H c g) (next-moves F v H c g ∙ e))
 

@@ -36,7 +36,8 @@ alarm-hold : (code : ℕ) → OneOf code (4 ∷ 6 ∷ []) → 1 ≤ holdOf code
 alarm-hold code o =
     ⊎-elim
     (λ (e : code ≡ 4). some-hold code (omega (arith, e)) (omega (arith, e)))
-    (λ (p : OneOf code (6 ∷ [])). ⊎-elim (λ (e : code ≡ 6). some-hold code (omega (arith, e)) (omega (arith, e))) (λ (q : OneOf code []). absurd (none q)) (first p))
+    (λ (p : OneOf code (6 ∷ [])). ⊎-elim (λ (e : code ≡ 6). some-hold code (omega (arith, e)) (omega (arith, e)))
+    (λ (q : OneOf code []). absurd (none q)) (first p))
     (first o)
 
 -- a timer that a call sets is not what a tick left of it at the start
@@ -85,7 +86,8 @@ module _ (t : Settings) (x : Timer) (v : Valid t) (u : Used t x) where
 
   timer-once : timerOf x once ≡ atStart t x - 1
   timer-once =
-      ticked (ours-follows .box) v (at-start (ours-follows .box) v) room (λ l. omega arith) .timers x ∙ ap (λ (n : ℕ). n - 1) (start-timer (ours-follows .box) v x u)
+      ticked (ours-follows .box) v (at-start (ours-follows .box) v) room (λ l. omega arith) .timers x
+      ∙ ap (λ (n : ℕ). n - 1) (start-timer (ours-follows .box) v x u)
 
   -- by what our box does to the timer
   by-frame : (a : Arrival) → OnWire (call.frame a) → ((h : ℕ) × Sets t x (call.frame a) h) ⊎ Unset t x (call.frame a)

@@ -14,7 +14,8 @@ use Rattle.loss_session.specs.declared.LossSession.{LossSession}
 use Rattle.state_view.specs.State.{State}
 use Rattle.state_view.specs.Changed.{Word, placeOf, anew, put, heard, withSession, lowered}
 use Rattle.state_view.specs.Changed as word
-use Rattle.paper_time.specs.Timers.{Condition, mismerge, unexpected-level, unexpected-mep, unexpected-period, ais, lck, Timer, peer, of}
+use Rattle.paper_time.specs.Timers.{Condition, mismerge, unexpected-level, unexpected-mep, unexpected-period, ais, lck, Timer, peer}
+use Rattle.paper_time.specs.Timers.{of}
 
 -- the word of a condition
 abbrev pub wordOf : Condition → Word
@@ -73,14 +74,16 @@ pub put-either : (c d : Condition) (v : ℕ) (s : State) → (d ≡ c) ⊎ (time
 put-either c d v s =
     ⊎-elim
     (λ (t : eqb (placeOf (wordOf c)) (placeOf (wordOf d)) ≡ true). inl (sym (one-place c d (eqb-true _ _ t))))
-    (λ (t : eqb (placeOf (wordOf c)) (placeOf (wordOf d)) ≡ false). inr (put-at d (wordOf c) v s ∙ ap (λ (b : Bool). cond b v (timerOf (of d) s)) t))
+    (λ (t : eqb (placeOf (wordOf c)) (placeOf (wordOf d)) ≡ false). inr
+    (put-at d (wordOf c) v s ∙ ap (λ (b : Bool). cond b v (timerOf (of d) s)) t))
     (known (eqb (placeOf (wordOf c)) (placeOf (wordOf d))))
 
 -- any other word: every timer stays
 pub put-behind : (x : Timer) (w : Word) (v : ℕ) (s : State) → 5 < placeOf w → timerOf x (put w v s) ≡ timerOf x s
 put-behind (peer k) w v s h = refl
 put-behind (of c) w v s h =
-    put-at c w v s ∙ ap (λ (b : Bool). cond b v (timerOf (of c) s)) (ne-eqb (placeOf w) (placeOf (wordOf c)) (λ e. omega (arith, place-low c, h, e)))
+    put-at c w v s ∙ ap (λ (b : Bool). cond b v (timerOf (of c) s))
+    (ne-eqb (placeOf w) (placeOf (wordOf c)) (λ e. omega (arith, place-low c, h, e)))
 
 -- ── a peer is heard, a session is put, a tick ──
 

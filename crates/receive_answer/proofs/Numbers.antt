@@ -9,8 +9,9 @@ use Rattle.receive_answer.specs.declared.FrameTold.{FrameTold}
 use Rattle.receive_answer.specs.declared.Drop.{Drop}
 use Rattle.receive_answer.specs.declared.Drop.the-variants.{Short, Level, Opcode, Offset, CutOff, Destination, Value, TooLarge}
 use Rattle.receive_answer.specs.declared.FrameAnswer.{FrameAnswer}
-use Rattle.receive_answer.specs.declared.FrameAnswer.the-variants.{NotWellFormed, BadLength, BadStamp, NoRoom, Full, Dropped, Passed, Taken, Replied, First, Measured, TwoWay, AllWays}
-use Rattle.receive_answer.specs.Told.{dropOf, refused, dropped, told, FrameNumbers}
+use Rattle.receive_answer.specs.declared.FrameAnswer.the-variants.{NotWellFormed, BadLength, BadStamp, NoRoom, Full, Dropped, Passed}
+use Rattle.receive_answer.specs.declared.FrameAnswer.the-variants.{Taken, Replied, First, Measured, TwoWay, AllWays}
+use Rattle.receive_answer.specs.Told.{dropOf, refused, dropped, frameTold, FrameNumbers}
 
 -- the drop of a number
 dropAt : ℕ → Drop
@@ -44,8 +45,8 @@ answerAt t =
     (cond (eqb (t .done) 7) (AllWays (t .twoway) (t .onewayfar) (t .onewaynear))
     (Dropped (dropAt (t .drop))))))))))))))
 
-told-at : (a : FrameAnswer) → answerAt (told a) ≡ a
-unfolding answerAt told
+told-at : (a : FrameAnswer) → answerAt (frameTold a) ≡ a
+unfolding answerAt frameTold
 told-at NotWellFormed = refl
 told-at BadLength = refl
 told-at BadStamp = refl
@@ -60,8 +61,8 @@ told-at (Measured near far) = refl
 told-at (TwoWay twoway) = refl
 told-at (AllWays twoway far near) = refl
 
-bare-refusal : (a : FrameAnswer) → (told a .refusal ≡ 0 → ⊥) → told a ≡ refused (told a .refusal)
-unfolding told
+bare-refusal : (a : FrameAnswer) → (frameTold a .refusal ≡ 0 → ⊥) → frameTold a ≡ refused (frameTold a .refusal)
+unfolding frameTold
 bare-refusal NotWellFormed h = refl
 bare-refusal BadLength h = refl
 bare-refusal BadStamp h = refl
@@ -76,8 +77,8 @@ bare-refusal (Measured near far) h = absurd (h refl)
 bare-refusal (TwoWay twoway) h = absurd (h refl)
 bare-refusal (AllWays twoway far near) h = absurd (h refl)
 
-bare-drop : (a : FrameAnswer) → (told a .drop ≡ 0 → ⊥) → told a ≡ dropped (told a .drop)
-unfolding told
+bare-drop : (a : FrameAnswer) → (frameTold a .drop ≡ 0 → ⊥) → frameTold a ≡ dropped (frameTold a .drop)
+unfolding frameTold
 bare-drop NotWellFormed h = absurd (h refl)
 bare-drop BadLength h = absurd (h refl)
 bare-drop BadStamp h = absurd (h refl)

@@ -24,8 +24,8 @@ abbrev pub absent : ℤ
 absent = pos 0
 
 -- refusal, drop, what was done (a number of ours, 0 beside a refusal or a drop), length, near and far loss, two-way delay, one-way far and near
-abbrev pub numbers : ℕ → ℕ → ℕ → ℕ → ℤ → ℤ → ℤ → ℤ → ℤ → FrameTold
-numbers refusal drop done length near far twoway onewayfar onewaynear = record {
+abbrev pub tellFrame : ℕ → ℕ → ℕ → ℕ → ℤ → ℤ → ℤ → ℤ → ℤ → FrameTold
+tellFrame refusal drop done length near far twoway onewayfar onewaynear = record {
   refusal = refusal;
   drop = drop;
   done = done;
@@ -38,30 +38,30 @@ numbers refusal drop done length near far twoway onewayfar onewaynear = record {
 }
 
 abbrev pub refused : ℕ → FrameTold
-refused n = numbers n 0 0 0 absent absent absent absent absent
+refused n = tellFrame n 0 0 0 absent absent absent absent absent
 
 abbrev pub dropped : ℕ → FrameTold
-dropped n = numbers 0 n 0 0 absent absent absent absent absent
+dropped n = tellFrame 0 n 0 0 absent absent absent absent absent
 
-unfoldable pub told : FrameAnswer → FrameTold
-told NotWellFormed = refused 2
-told BadLength = refused 1
-told BadStamp = refused 6
-told NoRoom = refused 3
-told Full = refused 5
-told (Dropped drop) = dropped (dropOf drop)
-told Passed = numbers 0 0 1 0 absent absent absent absent absent
-told Taken = numbers 0 0 2 0 absent absent absent absent absent
-told (Replied n) = numbers 0 0 3 n absent absent absent absent absent
-told First = numbers 0 0 4 0 absent absent absent absent absent
-told (Measured near far) = numbers 0 0 5 0 near far absent absent absent
-told (TwoWay twoway) = numbers 0 0 6 0 absent absent twoway absent absent
-told (AllWays twoway far near) = numbers 0 0 7 0 absent absent twoway far near
+unfoldable pub frameTold : FrameAnswer → FrameTold
+frameTold NotWellFormed = refused 2
+frameTold BadLength = refused 1
+frameTold BadStamp = refused 6
+frameTold NoRoom = refused 3
+frameTold Full = refused 5
+frameTold (Dropped drop) = dropped (dropOf drop)
+frameTold Passed = tellFrame 0 0 1 0 absent absent absent absent absent
+frameTold Taken = tellFrame 0 0 2 0 absent absent absent absent absent
+frameTold (Replied n) = tellFrame 0 0 3 n absent absent absent absent absent
+frameTold First = tellFrame 0 0 4 0 absent absent absent absent absent
+frameTold (Measured near far) = tellFrame 0 0 5 0 near far absent absent absent
+frameTold (TwoWay twoway) = tellFrame 0 0 6 0 absent absent twoway absent absent
+frameTold (AllWays twoway far near) = tellFrame 0 0 7 0 absent absent twoway far near
 
 -- what is said of every answer
 pub record FrameNumbers : Type 0 where
   -- no two answers are told alike
-  pub apart : (a b : FrameAnswer) → told a ≡ told b → a ≡ b
+  pub apart : (a b : FrameAnswer) → frameTold a ≡ frameTold b → a ≡ b
   -- beside a refusal, and beside a drop, every other value is 0
-  pub bare-refusal : (a : FrameAnswer) → (told a .refusal ≡ 0 → ⊥) → told a ≡ refused (told a .refusal)
-  pub bare-drop : (a : FrameAnswer) → (told a .drop ≡ 0 → ⊥) → told a ≡ dropped (told a .drop)
+  pub bare-refusal : (a : FrameAnswer) → (frameTold a .refusal ≡ 0 → ⊥) → frameTold a ≡ refused (frameTold a .refusal)
+  pub bare-drop : (a : FrameAnswer) → (frameTold a .drop ≡ 0 → ⊥) → frameTold a ≡ dropped (frameTold a .drop)

@@ -1,6 +1,6 @@
 // What a frame is answered: a case for each line of the paper's tables, and the same in the paper's numbers.
 ghost use mathlib.Core.Path.{_≡_};
-ghost use Rattle.receive_answer.specs.Told.{dropOf, absent, numbers, told};
+ghost use Rattle.receive_answer.specs.Told.{dropOf, absent, tellFrame, frameTold};
 
 // Why a frame is dropped.
 pub enum Drop {
@@ -99,7 +99,7 @@ fn number_of(drop: Drop) -> u32
 
 // What is told without a loss or a delay.
 fn plain(refusal: u32, drop: u32, done: u32, length: usize) -> FrameTold
-    ensures { λ r. ⌜ r ≡ numbers refusal drop done length absent absent absent absent absent ⌝ }
+    ensures { λ r. ⌜ r ≡ tellFrame refusal drop done length absent absent absent absent absent ⌝ }
 {
     FrameTold {
         refusal,
@@ -116,7 +116,7 @@ fn plain(refusal: u32, drop: u32, done: u32, length: usize) -> FrameTold
 
 // What is told of losses.
 fn lost(near: i64, far: i64) -> FrameTold
-    ensures { λ r. ⌜ r ≡ numbers 0 0 5 0 near far absent absent absent ⌝ }
+    ensures { λ r. ⌜ r ≡ tellFrame 0 0 5 0 near far absent absent absent ⌝ }
 {
     FrameTold {
         refusal: 0,
@@ -133,7 +133,7 @@ fn lost(near: i64, far: i64) -> FrameTold
 
 // What is told of delays.
 fn delayed(done: u32, twoway: i64, far: i64, near: i64) -> FrameTold
-    ensures { λ r. ⌜ r ≡ numbers 0 0 done 0 absent absent twoway far near ⌝ }
+    ensures { λ r. ⌜ r ≡ tellFrame 0 0 done 0 absent absent twoway far near ⌝ }
 {
     FrameTold {
         refusal: 0,
@@ -150,7 +150,7 @@ fn delayed(done: u32, twoway: i64, far: i64, near: i64) -> FrameTold
 
 // An answer in the paper's numbers.
 pub fn tell(answer: FrameAnswer) -> FrameTold
-    ensures { λ r. ⌜ r ≡ told answer ⌝ }
+    ensures { λ r. ⌜ r ≡ frameTold answer ⌝ }
 {
     match answer {
         FrameAnswer::NotWellFormed => plain(2, 0, 0, 0),

@@ -23,7 +23,8 @@ module _ (ours : ℕ) (side : Side) (f : List ℕ) where
   not-oam n h = rw (le-leb 14 (length f) h, ne-eqb (etherTypeOf f) 0x8902 n)
 
   -- an OAM frame with its head: what the levels and the side make it
-  headed : etherTypeOf f ≡ 0x8902 → 18 ≤ length f → classOf ours side f ≡ cond (ltb ours (levelOf (pduOf f))) Above (bySide ours side (levelOf (pduOf f)))
+  headed : etherTypeOf f ≡ 0x8902 → 18 ≤ length f → classOf ours side f ≡ cond (ltb ours (levelOf (pduOf f))) Above
+      (bySide ours side (levelOf (pduOf f)))
   unfolding classOf choose
   headed e h = rw (oam e (omega arith), le-ltb (length f) 18 h)
 
@@ -74,7 +75,8 @@ side-long f ours Active theirs h = go (ltb theirs ours) where
 long : (ours : ℕ) (side : Side) (f : List ℕ) → Long f (classOf ours side f)
 unfolding classOf choose
 long ours side f = go (counted ours side f) (ltb (length f) 18) refl (ltb ours (levelOf (pduOf f))) where
-  go : (a b : Bool) → ltb (length f) 18 ≡ b → (d : Bool) → Long f (cond a Service (cond b Short (cond d Above (bySide ours side (levelOf (pduOf f))))))
+  go : (a b : Bool) → ltb (length f) 18 ≡ b → (d : Bool)
+      → Long f (cond a Service (cond b Short (cond d Above (bySide ours side (levelOf (pduOf f))))))
   go true b e d = tt
   go false true e d = tt
   go false false e true = tt
@@ -86,8 +88,10 @@ classes ours side f = record {
   short = short ours side f;
   above = above ours side f;
   inside = λ e h k p. sided ours side f e h k ∙ ap (λ (d : Side). bySide ours d (levelOf (pduOf f))) p ∙ passive ours (levelOf (pduOf f));
-  below = λ e h k p. sided ours side f e h (omega arith) ∙ ap (λ (d : Side). bySide ours d (levelOf (pduOf f))) p ∙ lower ours (levelOf (pduOf f)) k;
-  own = λ e h k p. sided ours side f e h (omega arith) ∙ ap (λ (d : Side). bySide ours d (levelOf (pduOf f))) p ∙ equal ours (levelOf (pduOf f)) k;
+  below = λ e h k p. sided ours side f e h (omega arith) ∙ ap (λ (d : Side). bySide ours d (levelOf (pduOf f))) p
+      ∙ lower ours (levelOf (pduOf f)) k;
+  own = λ e h k p. sided ours side f e h (omega arith) ∙ ap (λ (d : Side). bySide ours d (levelOf (pduOf f))) p
+      ∙ equal ours (levelOf (pduOf f)) k;
   below-long = λ e. rw e at (long ours side f);
   own-long = λ e. rw e at (long ours side f);
 }

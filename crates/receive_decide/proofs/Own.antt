@@ -26,11 +26,13 @@ module _ (t : Settings) (f : List ℕ) (receive : Stamp) where
   unfolding ownOf
   not-handled h = rw h
 
-  reached : (m : MessageAnswer) → ruleOf (opcodeOf (pduOf f)) .handled ≡ true → messageOf f ≡ m → ownOf t f receive ≡ answeredOf t f receive m
+  reached : (m : MessageAnswer) → ruleOf (opcodeOf (pduOf f)) .handled ≡ true → messageOf f ≡ m
+      → ownOf t f receive ≡ answeredOf t f receive m
   unfolding ownOf
   reached m h e = rw (h, e)
 
-  pub found-bad : (bad : Bad) → ruleOf (opcodeOf (pduOf f)) .handled ≡ true → messageOf f ≡ message.Bad bad → ownOf t f receive ≡ Drops (dropFor bad)
+  pub found-bad : (bad : Bad) → ruleOf (opcodeOf (pduOf f)) .handled ≡ true → messageOf f ≡ message.Bad bad
+      → ownOf t f receive ≡ Drops (dropFor bad)
   unfolding answeredOf
   found-bad bad h e = reached (message.Bad bad) h e
 
@@ -40,6 +42,7 @@ module _ (t : Settings) (f : List ℕ) (receive : Stamp) where
   found-code h e = reached message.PeriodCode h e
 
   pub found-message : (opcode : ℕ) → ruleOf (opcodeOf (pduOf f)) .handled ≡ true → messageOf f ≡ message.Message opcode
-      → ownOf t f receive ≡ cond (isOurs (t .own) (t .losspeer) f) (handleOf t (pduOf f) receive (ruleOf opcode .handler)) (Drops drop.Destination)
+      → ownOf t f receive ≡ cond (isOurs (t .own) (t .losspeer) f) (handleOf t (pduOf f) receive (ruleOf opcode .handler))
+      (Drops drop.Destination)
   unfolding answeredOf
   found-message opcode h e = reached (message.Message opcode) h e

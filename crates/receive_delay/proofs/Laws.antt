@@ -1,10 +1,10 @@
 -- The statements of specs/Delays.antt, and the cases of a reply as laws that others cite. Assumes nothing.
-use Prim.Native.Nat.{ℕ, zero, suc, _^_, _≤_, _<_}
+use Prim.Native.Nat.{ℕ, _^_, _≤_, _<_}
 use mathlib.Core.Path.{_≡_, refl, sym, ap, _∙_}
 use mathlib.Core.Bool.{Bool, true, false, cond}
 use mathlib.Core.Logic.{⊎-elim}
 use native.Mathlib.Omega.{arith}
-use lib.IntN.{ℤ, pos, negsuc, natAbs, negℤ, _-ℤ_}
+use lib.IntN.{ℤ, pos, negsuc, natAbs, _-ℤ_}
 use borrow.Author.Tests.{lt-ltb}
 use Rattle.base_laws.specs.Tests.{choose}
 use Rattle.base_laws.specs.Lists.{every}
@@ -48,7 +48,8 @@ module _ (txf rxf txb here : Stamp) where
     unfolding delaysOf choose every
     delays-two p = rw (u, p, held-size (between txf here) (omega arith))
 
-    pub delays-all : paired rxf txb ≡ true → natAbs (between rxf txb) ≤ furthest → natAbs (between txf rxf) ≤ furthest → natAbs (between txb here) ≤ furthest
+    pub delays-all : paired rxf txb ≡ true → natAbs (between rxf txb) ≤ furthest → natAbs (between txf rxf) ≤ furthest
+        → natAbs (between txb here) ≤ furthest
         → delaysOf txf rxf txb here ≡ AllWays (without-stay txf rxf txb here) (between txf rxf) (between txb here)
     unfolding delaysOf choose every
     delays-all p stay far near =
@@ -80,7 +81,11 @@ module _ (txf rxf txb here : Stamp) where
       (λ u.
       let all = between-size txf here wt wh in
       ⊎-elim
-      (λ p. omega (arith, apart _ _ (delays-all txf rxf txb here u all p (between-size rxf txb wr wb) (between-size txf rxf wt wr) (between-size txb here wb wh)) e))
+      (λ p. omega (
+        arith,
+        apart _ _ (delays-all txf rxf txb here u all p (between-size rxf txb wr wb) (between-size txf rxf wt wr)
+            (between-size txb here wb wh)) e,
+      ))
       (λ p. omega (arith, apart _ _ (delays-two txf rxf txb here u all p) e))
       (known (paired rxf txb)))
       (λ u. omega (arith, apart _ _ (delays-bad txf rxf txb here u) e))
@@ -94,7 +99,8 @@ module _ (txf rxf txb here : Stamp) where
   unfolding delaysOf choose numbered
   measured u h = rw (u, h) (either (paired rxf txb))
     where
-      either : (b : Bool) → numbered (cond b (AllWays (without-stay txf rxf txb here) (between txf rxf) (between txb here)) (TwoWay (there-and-back txf here))) ≡ 1
+      either : (b : Bool) → numbered (cond b (AllWays (without-stay txf rxf txb here) (between txf rxf) (between txb here))
+          (TwoWay (there-and-back txf here))) ≡ 1
       either true = refl
       either false = refl
 

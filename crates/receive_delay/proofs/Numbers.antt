@@ -11,21 +11,22 @@ use Rattle.receive_delay.specs.declared.DelayAnswer.{DelayAnswer}
 use Rattle.receive_delay.specs.declared.DelayAnswer.the-variants.{BadStamp, TooLarge, TwoWay, AllWays}
 use Rattle.receive_delay.specs.Used.{between, paired, usable}
 use Rattle.receive_delay.specs.Delays.{there-and-back, without-stay, formed, held, delaysOf}
-use Rattle.receive_delay.specs.Told.{told, numbersOf, DelayNumbers}
+use Rattle.receive_delay.specs.Told.{delayTold, delayNumbers, DelayNumbers}
 
 -- the two chains have the same tests, in the same order
-pub told-numbers : (txf rxf txb here : Stamp) → told (delaysOf txf rxf txb here) ≡ numbersOf txf rxf txb here
-unfolding delaysOf numbersOf choose told
+pub told-numbers : (txf rxf txb here : Stamp) → delayTold (delaysOf txf rxf txb here) ≡ delayNumbers txf rxf txb here
+unfolding delaysOf delayNumbers choose delayTold
 told-numbers txf rxf txb here =
-    choose-map told
+    choose-map delayTold
     ((not (usable txf rxf txb here), BadStamp)
     ∷ (not (every held (formed txf rxf txb here)), TooLarge)
     ∷ (paired rxf txb, AllWays (without-stay txf rxf txb here) (between txf rxf) (between txb here))
     ∷ [])
     (TwoWay (there-and-back txf here))
 
-zeros : (a : DelayAnswer) → ((told a .drop ≡ 0) → ⊥) → (told a .twoway ≡ pos 0) × (told a .far ≡ pos 0) × (told a .near ≡ pos 0)
-unfolding told
+zeros : (a : DelayAnswer) → ((delayTold a .drop ≡ 0) → ⊥) → (delayTold a .twoway ≡ pos 0) × (delayTold a .far ≡ pos 0)
+    × (delayTold a .near ≡ pos 0)
+unfolding delayTold
 zeros BadStamp h = (refl, refl, refl)
 zeros TooLarge h = (refl, refl, refl)
 zeros (TwoWay t) h = absurd (h refl)

@@ -26,15 +26,15 @@ dropped n = record { drop = n; twoway = pos 0; far = pos 0; near = pos 0 }
 abbrev pub results : ℤ → ℤ → ℤ → DelayTold
 results t f n = record { drop = 0; twoway = t; far = f; near = n }
 
-unfoldable pub told : DelayAnswer → DelayTold
-told BadStamp = dropped 7
-told TooLarge = dropped 8
-told (TwoWay t) = results t (pos 0) (pos 0)
-told (AllWays t f n) = results t f n
+unfoldable pub delayTold : DelayAnswer → DelayTold
+delayTold BadStamp = dropped 7
+delayTold TooLarge = dropped 8
+delayTold (TwoWay t) = results t (pos 0) (pos 0)
+delayTold (AllWays t f n) = results t f n
 
 -- what a reply is told, in the paper's numbers alone
-unfoldable pub numbersOf : Stamp → Stamp → Stamp → Stamp → DelayTold
-numbersOf txf rxf txb here =
+unfoldable pub delayNumbers : Stamp → Stamp → Stamp → Stamp → DelayTold
+delayNumbers txf rxf txb here =
     choose (
     (not (usable txf rxf txb here), dropped 7)
     ∷ (not (every held (formed txf rxf txb here)), dropped 8)
@@ -44,4 +44,4 @@ numbersOf txf rxf txb here =
 
 -- beside a drop every other value is 0
 pub record DelayNumbers : Type 0 where
-  pub zeros : (a : DelayAnswer) → ((told a .drop ≡ 0) → ⊥) → (told a .twoway ≡ pos 0) × (told a .far ≡ pos 0) × (told a .near ≡ pos 0)
+  pub zeros : (a : DelayAnswer) → ((delayTold a .drop ≡ 0) → ⊥) → (delayTold a .twoway ≡ pos 0) × (delayTold a .far ≡ pos 0) × (delayTold a .near ≡ pos 0)

@@ -6,7 +6,7 @@ ghost use mir.Syntax.{w64};
 ghost use mir.Val.{SFits};
 ghost use Rattle.receive_delay.specs.Used.{instant, between, paired, usable};
 ghost use Rattle.receive_delay.specs.Delays.{delaysOf};
-ghost use Rattle.receive_delay.specs.Told.{told, numbersOf};
+ghost use Rattle.receive_delay.specs.Told.{delayTold, delayNumbers};
 use base_stamp::Stamp;
 use base_stamp::given_stamp;
 use base_stamp::good_stamp;
@@ -65,7 +65,7 @@ fn stamps_good(txf: Stamp, rxf: Stamp, txb: Stamp, here: Stamp) -> bool
 //   txb    TxTimeStampb, when the reply left, by the responder's clock
 //   here   when the reply came, by our clock
 pub fn measure_delay(txf: Stamp, rxf: Stamp, txb: Stamp, here: Stamp) -> DelayAnswer
-    ensures { λ r. ⌜ (r ≡ delaysOf txf rxf txb here) × (told r ≡ numbersOf txf rxf txb here) ⌝ }
+    ensures { λ r. ⌜ (r ≡ delaysOf txf rxf txb here) × (delayTold r ≡ delayNumbers txf rxf txb here) ⌝ }
 {
     if !stamps_good(txf, rxf, txb, here) {
         return DelayAnswer::BadStamp;

@@ -23,7 +23,7 @@ use Rattle.message_reply.specs.declared.Replied.{Replied}
 use Rattle.message_reply.specs.declared.Replied.the-variants.{CutOff, NoRoom, Octets}
 use Rattle.message_reply.specs.Replied.{cutOff, repliedOf}
 use Rattle.receive_answer.specs.declared.FrameTold.{FrameTold}
-use Rattle.receive_answer.specs.Told.{dropOf, refused, told}
+use Rattle.receive_answer.specs.Told.{dropOf, refused, frameTold}
 use Rattle.receive_class.specs.declared.Side.{Side}
 use Rattle.receive_change.specs.Change.{answerOf, applied}
 use Rattle.receive_change.specs.declared.Change.{Change}
@@ -34,36 +34,40 @@ use Rattle.receive_handle.specs.declared.Decision.{Decision}
 use Rattle.receive_handle.specs.declared.Decision.the-variants.{Drops, Passes, Changes, Replies, Delays}
 use Rattle.receive_decide.specs.Decide.{decideOf}
 use Rattle.receive_frame.specs.Frame.{frameOf}
-use Rattle.receive_frame.specs.Numbers.{lossNumbers, changeNumbers, replyNumbers, delayNumbers, decisionNumbers, numbersOf, FramesTold}
+use Rattle.receive_frame.specs.Numbers.{frameLossNumbers, changeNumbers, replyNumbers, frameDelayNumbers, decisionNumbers}
+use Rattle.receive_frame.specs.Numbers.{frameNumbers, FramesTold}
 use Rattle.receive_answer.specs.declared.FrameAnswer.{FrameAnswer}
 
-loss-told : (s : LossSession) (r : Readings) → told (answerOf (afterReading s r .answer)) ≡ lossNumbers s r
-unfolding afterReading lossNumbers answerOf told
-loss-told s r = choose-map (λ (u : Updated). told (answerOf (u .answer))) _ _
+loss-told : (s : LossSession) (r : Readings) → frameTold (answerOf (afterReading s r .answer)) ≡ frameLossNumbers s r
+unfolding afterReading frameLossNumbers answerOf frameTold
+loss-told s r = choose-map (λ (u : Updated). frameTold (answerOf (u .answer))) _ _
 
-change-told : (s : State) (change : Change) → told (applied s change .answer) ≡ changeNumbers s change
-unfolding applied told dropOf
+change-told : (s : State) (change : Change) → frameTold (applied s change .answer) ≡ changeNumbers s change
+unfolding applied frameTold dropOf
 change-told s Sent = refl
 change-told s Received = refl
 change-told s UnexpectedLevel = refl
 change-told s (Told signal) = refl
 change-told s (Reading txf rxf txb) = loss-told (s .session) _
 
-reply-told : (fixed : ℕ) (request reply buffer : List ℕ) → told (answerFor (repliedOf fixed request reply buffer)) ≡ replyNumbers fixed request reply buffer
-unfolding answerFor told dropOf
+reply-told : (fixed : ℕ) (request reply buffer : List ℕ)
+    → frameTold (answerFor (repliedOf fixed request reply buffer)) ≡ replyNumbers fixed request reply buffer
+unfolding answerFor frameTold dropOf
 reply-told fixed request reply buffer =
-    choose-map (λ (x : Replied). told (answerFor x)) ((cutOff fixed request, CutOff) ∷ (noRoom reply buffer, NoRoom) ∷ []) (Octets (length reply))
+    choose-map (λ (x : Replied). frameTold (answerFor x)) ((cutOff fixed request, CutOff) ∷ (noRoom reply buffer, NoRoom) ∷ [])
+    (Octets (length reply))
 
-delay-told : (x : DelayAnswer) → told (delayAnswer x) ≡ delayNumbers x
-unfolding delayAnswer told dropOf
+delay-told : (x : DelayAnswer) → frameTold (delayAnswer x) ≡ frameDelayNumbers x
+unfolding delayAnswer frameTold dropOf
 delay-told delay.BadStamp = refl
 delay-told delay.TooLarge = refl
 delay-told (delay.TwoWay twoway) = refl
 delay-told (delay.AllWays twoway far near) = refl
 
 module _ (s : State) (f : List ℕ) (receive transmit : Stamp) (buffer : List ℕ) where
-  decision-told : (d : Decision) → told (carriedOut s f receive transmit buffer d .answer) ≡ decisionNumbers s f receive transmit buffer d
-  unfolding carriedOut told respondedOf
+  decision-told : (d : Decision) → frameTold (carriedOut s f receive transmit buffer d .answer)
+      ≡ decisionNumbers s f receive transmit buffer d
+  unfolding carriedOut frameTold respondedOf
   decision-told (Drops drop) = refl
   decision-told Passes = refl
   decision-told (Changes change) = change-told s change
@@ -71,10 +75,10 @@ module _ (s : State) (f : List ℕ) (receive transmit : Stamp) (buffer : List �
   decision-told (Delays answer) = delay-told answer
 
 pub agree : (s : State) (side : Side) (f : List ℕ) (receive transmit : Stamp) (buffer : List ℕ)
-    → told (frameOf s side f receive transmit buffer .answer) ≡ numbersOf s side f receive transmit buffer
-unfolding frameOf numbersOf told
+    → frameTold (frameOf s side f receive transmit buffer .answer) ≡ frameNumbers s side f receive transmit buffer
+unfolding frameOf frameNumbers frameTold
 agree s side f receive transmit buffer =
-    choose-map (λ (x : Ended State FrameAnswer). told (x .answer)) _ _
+    choose-map (λ (x : Ended State FrameAnswer). frameTold (x .answer)) _ _
     ∙ ap
     (λ (x : FrameTold).
     choose (

@@ -46,7 +46,8 @@ module _ (s : State) (side : Side) (f : List ℕ) (receive transmit : Stamp) (bu
   unfolding frameOf choose
   refused-1 w l = rw (w, l)
 
-  pub refused-6 : wellFormed s ≡ true → lengthGood f ≡ true → (good receive && good transmit) ≡ false → frameOf s side f receive transmit buffer ≡ ended BadStamp s buffer
+  pub refused-6 : wellFormed s ≡ true → lengthGood f ≡ true → (good receive && good transmit) ≡ false
+      → frameOf s side f receive transmit buffer ≡ ended BadStamp s buffer
   unfolding frameOf choose
   refused-6 w l g = rw (w, l, g)
 

@@ -5,9 +5,9 @@ ghost use Rattle.base_laws.specs.Ended.{ended};
 ghost use Rattle.state_view.specs.State.{before, after};
 ghost use Rattle.state_places.specs.Stored.{Whole};
 ghost use Rattle.base_stamp.specs.Stamps.{Wire};
-ghost use Rattle.receive_answer.specs.Told.{told};
+ghost use Rattle.receive_answer.specs.Told.{frameTold};
 ghost use Rattle.receive_frame.specs.Frame.{frameOf};
-ghost use Rattle.receive_frame.specs.Numbers.{numbersOf};
+ghost use Rattle.receive_frame.specs.Numbers.{frameNumbers};
 use base_stamp::Stamp;
 use base_stamp::good_stamp;
 use frame_head::HEAD_LENGTH;
@@ -40,8 +40,8 @@ pub fn on_frame(
 ) -> FrameAnswer
     ensures { λ r. ⌜ ended r (after set names ids timers rdi run totals) (now (out .exit)) ≡
         frameOf (before set names ids timers rdi run totals) side (now (frame .entry)) receive transmit (now (out .entry)) ⌝ }
-    ensures { λ r. ⌜ told r ≡
-        numbersOf (before set names ids timers rdi run totals) side (now (frame .entry)) receive transmit (now (out .entry)) ⌝ }
+    ensures { λ r. ⌜ frameTold r ≡
+        frameNumbers (before set names ids timers rdi run totals) side (now (frame .entry)) receive transmit (now (out .entry)) ⌝ }
     ensures { λ _. ⌜ Whole (now (run .exit)) (now (totals .exit)) ⌝ }
     ensures { λ _. ⌜ Wire receive × Wire transmit ⌝ }
 {

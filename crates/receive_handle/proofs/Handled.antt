@@ -1,7 +1,6 @@
 -- A message that has its fixed part is handled, and its handler finds the octets that it reads. Assumes nothing.
 use Prim.Native.Nat.{ℕ, _+_, _≤_}
 use mathlib.Core.Path.{_≡_, refl, sym, ap, _∙_}
-use mathlib.Core.Bool.{Bool}
 use mathlib.Core.List.{List}
 use native.Mathlib.Omega.{arith}
 use lib.Dec.{leb}
@@ -12,11 +11,11 @@ use Rattle.base_laws.specs.Lists.{everyBelow}
 use Rattle.state_settings.specs.Settings.{Settings}
 use Rattle.base_stamp.specs.declared.Stamp.{Stamp}
 use Rattle.frame_opcodes.specs.declared.Handler.{Handler}
-use Rattle.frame_opcodes.specs.declared.Handler.the-variants.{Nobody, ReaderOnly, Continuity, Loopback, Alarm, Lock, LossReply, LossRequest, DelayReply, DelayRequest}
+use Rattle.frame_opcodes.specs.declared.Handler.the-variants.{Nobody, ReaderOnly, Continuity, Loopback, Alarm, Lock, LossReply, LossRequest}
+use Rattle.frame_opcodes.specs.declared.Handler.the-variants.{DelayReply, DelayRequest}
 use Rattle.frame_opcodes.specs.declared.Rule.{Rule}
 use Rattle.frame_opcodes.specs.Opcodes.{ruleOf}
 use Rattle.frame_opcodes.proofs.Rules.{every-row}
-use Rattle.receive_handle.specs.declared.Decision.{Decision}
 use Rattle.receive_handle.specs.Handle.{handleOf, handledOf}
 
 -- how many octets of the fixed part a handler reads without asking
@@ -36,7 +35,8 @@ needed DelayRequest = 0
 pub room : (op : ℕ) (r : Rule) (h : Handler) → r ≡ ruleOf op → r .handler ≡ h → needed h ≤ ruleOf op .least
 unfolding needed ruleOf choose everyBelow
 room op r h e k =
-    let w = leb-true (needed (ruleOf op .handler)) (ruleOf op .least) (every-row (λ x. leb (needed (x .handler)) (x .least)) refl refl op) in
+    let w = leb-true (needed (ruleOf op .handler)) (ruleOf op .least)
+    (every-row (λ x. leb (needed (x .handler)) (x .least)) refl refl op) in
     omega (arith, w, ap (λ (x : Rule). needed (x .handler)) e, ap needed k)
 
 -- and an octet holds it
@@ -51,6 +51,8 @@ module _ (t : Settings) (p : List ℕ) (receive : Stamp) (op : ℕ) where
   handled-whole k = rw (le-ltb (length p) (4 + ruleOf op .least) k)
 
   -- by the row and the handler that the code found
-  pub handled-by : (r : Rule) (h : Handler) → r ≡ ruleOf op → r .handler ≡ h → 4 + r .least ≤ length p → handleOf t p receive h ≡ handledOf t p receive op
+  pub handled-by : (r : Rule) (h : Handler) → r ≡ ruleOf op → r .handler ≡ h → 4 + r .least ≤ length p
+      → handleOf t p receive h ≡ handledOf t p receive op
   handled-by r h e k l =
-      sym (handled-whole (omega (arith, l, ap (λ (x : Rule). x .least) e)) ∙ ap (handleOf t p receive) (sym (ap (λ (x : Rule). x .handler) e) ∙ k))
+      sym (handled-whole (omega (arith, l, ap (λ (x : Rule). x .least) e))
+      ∙ ap (handleOf t p receive) (sym (ap (λ (x : Rule). x .handler) e) ∙ k))

@@ -19,7 +19,8 @@ module _ (t : Settings) (p : List ℕ) (same-found : Bool) (m : same-found ≡ s
   unfolding ccmSignal choose part
   mismerge e = rw (sym m ∙ e)
 
-  module _ (peers : List ℕ) (field id slot : ℕ) (u : peers ≡ usedPeers t) (f : field ≡ number bigEndian (part 8 2 p)) (i : id ≡ mepId field) (s : slot ≡ placeOf id peers) (e : same-found ≡ true) where
+  module _ (peers : List ℕ) (field id slot : ℕ) (u : peers ≡ usedPeers t) (f : field ≡ number bigEndian (part 8 2 p)) (i : id ≡ mepId field)
+      (s : slot ≡ placeOf id peers) (e : same-found ≡ true) where
     at : slot ≡ slotOf t p
     at = rw (s, u, i, f)
 
@@ -30,8 +31,24 @@ module _ (t : Settings) (p : List ℕ) (same-found : Bool) (m : same-found ≡ s
     module _ (code flag : ℕ) (c : code ≡ ccmIn p .period) (g : flag ≡ ccmIn p .rdi) (h : slot < length peers) where
       pub other-period : (code ≡ t .period → ⊥) → signal.UnexpectedPeriod slot flag ≡ ccmSignal t p
       unfolding ccmSignal choose part
-      other-period n = rw (sym m ∙ e, lt-leb (length (usedPeers t)) (slotOf t p) (rw (← at, ← u) h), ne-eqb (ccmIn p .period) (t .period) (λ k. n (c ∙ k)), at, g)
+      other-period n =
+          rw (
+            sym m ∙ e,
+            lt-leb (length (usedPeers t)) (slotOf t p) (rw (← at, ← u) h),
+            ne-eqb (ccmIn p .period) (t .period)
+                (λ k. n (c ∙ k)),
+            at,
+            g,
+          )
 
       pub peer : code ≡ t .period → signal.Heard slot flag ≡ ccmSignal t p
       unfolding ccmSignal choose part
-      peer n = rw (sym m ∙ e, lt-leb (length (usedPeers t)) (slotOf t p) (rw (← at, ← u) h), eq-eqb (ccmIn p .period) (t .period) (sym c ∙ n), at, g)
+      peer n =
+          rw (
+            sym m ∙ e,
+            lt-leb (length (usedPeers t)) (slotOf t p) (rw (← at, ← u) h),
+            eq-eqb (ccmIn p .period) (t .period)
+                (sym c ∙ n),
+            at,
+            g,
+          )

@@ -1,3 +1,3 @@
-pub mod Calls
+pub mod RecordedCalls
 pub mod Meaning
 pub mod One

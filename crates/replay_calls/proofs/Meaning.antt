@@ -1,4 +1,4 @@
--- The statement of specs/Calls.antt. Assumes nothing.
+-- The statement of specs/RecordedCalls.antt. Assumes nothing.
 use Prim.Native.Nat.{ℕ, zero, suc, _+_, _-_, _≤_, _<_}
 use mathlib.Core.Path.{_≡_, refl, sym, ap, subst, _∙_}
 use mathlib.Core.Bool.{true, false≢true}
@@ -8,8 +8,8 @@ use native.Mathlib.Omega.{arith}
 use lib.Dec.{ltb}
 use borrow.Author.Tests.{ltb-true, ltb-false}
 use Rattle.base_laws.proofs.Tests.{known}
-use Rattle.replay_calls.specs.Calls.{rowOf, placeOf, frontNumber, callLength, handsOver, Calls}
-use Rattle.replay_calls.proofs.Calls.{row-below, row-above, row-in, place-none, length-low, length-high, length-in}
+use Rattle.replay_calls.specs.RecordedCalls.{rowOf, placeOf, frontNumber, callLength, handsOver, Calls}
+use Rattle.replay_calls.proofs.RecordedCalls.{row-below, row-above, place-none, length-low, length-high, length-in}
 
 -- ── a number, and its row ──
 
@@ -33,7 +33,8 @@ module _ (head : List ℕ) where
       ⊎-elim (λ t. inl (ltb-true n 2 t))
       (λ t.
       let low : 2 ≤ n = ltb-false n 2 t in
-      ⊎-elim (λ u. inr (ltb-true 2000 n u)) (λ u. absurd (omega (arith, e, low, length-in head {n = n} refl low (ltb-false 2000 n u)))) (known (ltb 2000 n)))
+      ⊎-elim (λ u. inr (ltb-true 2000 n u)) (λ u. absurd (omega (arith, e, low, length-in head {n = n} refl low (ltb-false 2000 n u))))
+      (known (ltb 2000 n)))
       (known (ltb n 2))
 
   bad-from : (n < 2) ⊎ (2000 < n) → callLength head ≡ 0
@@ -65,7 +66,8 @@ six-from : (m : ℕ) → Six m → handsOver m ≡ true
 unfolding handsOver placeOf rowOf
 six-from m w =
     let there : (k : ℕ) → handsOver k ≡ true → m ≡ k → handsOver m ≡ true = λ k t e. ap handsOver e ∙ t in
-    ⊎-elim (there 258 refl) (⊎-elim (there 259 refl) (⊎-elim (there 261 refl) (⊎-elim (there 262 refl) (⊎-elim (there 269 refl) (there 271 refl))))) w
+    ⊎-elim (there 258 refl) (⊎-elim (there 259 refl)
+    (⊎-elim (there 261 refl) (⊎-elim (there 262 refl) (⊎-elim (there 269 refl) (there 271 refl))))) w
 
 six-rows : (k : ℕ) → k < 16 → handsOver (257 + k) ≡ true → Six (257 + k)
 unfolding handsOver placeOf rowOf

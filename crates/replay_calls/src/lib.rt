@@ -1,7 +1,7 @@
 // Recorded calls: how long one is, its row in the tables of calls, and the part of the buffer that it hands over.
 // A call is a two-octet length of all that follows it, a two-octet number, a body.
 ghost use mathlib.Core.Path.{_≡_};
-ghost use Rattle.replay_calls.specs.Calls.{rowOf, callLength, handsOver, roomOf};
+ghost use Rattle.replay_calls.specs.RecordedCalls.{rowOf, callLength, handsOver, roomOf};
 use base_numbers::read_little;
 
 // The longest call, without its length.

@@ -1,7 +1,7 @@
 -- The laws of the tests, one for each way that the code goes. Assumes nothing.
 use Prim.Native.Nat.{ℕ, zero, suc, _-_, _≤_, _<_}
 use mathlib.Core.Path.{_≡_, refl, ap₂, _∙_}
-use mathlib.Core.Bool.{Bool, true, false, _&&_}
+use mathlib.Core.Bool.{true, false, _&&_}
 use mathlib.Core.List.{List, [], _∷_, _++_}
 use mathlib.Core.Logic.{⊎-elim}
 use native.Mathlib.Omega.{arith}
@@ -10,8 +10,8 @@ use lib.ListN.{length, getD, List·getD-append}
 use borrow.Author.Tests.{lt-ltb, le-ltb, le-leb, lt-leb, eq-eqb, ne-eqb, ltb-true, ltb-false}
 use Rattle.base_laws.specs.Tests.{choose}
 use Rattle.base_laws.proofs.Tests.{known}
-use Rattle.replay_calls.specs.Calls.{rowOf, frontNumber, roomOf}
-use Rattle.replay_calls.proofs.Calls.{row-most}
+use Rattle.replay_calls.specs.RecordedCalls.{rowOf, frontNumber, roomOf}
+use Rattle.replay_calls.proofs.RecordedCalls.{row-most}
 use Rattle.replay_good_calls.specs.GoodCalls.{fewest, most, bodyGood, sideGood, isCall}
 
 -- ── the body ──
@@ -36,11 +36,13 @@ module _ (n : ℕ) {r : ℕ} (e : r ≡ rowOf n) where
       ⊎-elim
       (λ t.
       let low : r < 16 = ltb-true r 16 t in
-      ap₂ (λ (x y : ℕ). leb x k && leb k y) (List·getD-append fewest (1 ∷ []) 0 r low) (List·getD-append most (0 ∷ []) 0 r low) ∙ body-some k low)
+      ap₂ (λ (x y : ℕ). leb x k && leb k y) (List·getD-append fewest (1 ∷ []) 0 r low) (List·getD-append most (0 ∷ []) 0 r low)
+      ∙ body-some k low)
       (λ t.
       let high : 16 ≤ r = ltb-false r 16 t in
       let last : r ≡ 16 = omega (arith, row-most n, e, high) in
-      ap₂ (λ (i j : ℕ). leb (getD (fewest ++ (1 ∷ [])) i 0) k && leb k (getD (most ++ (0 ∷ [])) j 0)) last last ∙ none-long k ∙ body-none k high)
+      ap₂ (λ (i j : ℕ). leb (getD (fewest ++ (1 ∷ [])) i 0) k && leb k (getD (most ++ (0 ∷ [])) j 0)) last last ∙ none-long k
+      ∙ body-none k high)
       (known (ltb r 16))
 
 module _ (call : List ℕ) where

@@ -9,8 +9,8 @@ use lib.Dec.{ltb, eqb}
 use lib.ListN.{length, getD}
 use borrow.Author.Tests.{ltb-true, ltb-false, leb-true, le-leb, eqb-true, eqb-false}
 use Rattle.base_laws.proofs.Tests.{known, split, join}
-use Rattle.replay_calls.specs.Calls.{rowOf, frontNumber, roomOf}
-use Rattle.replay_calls.proofs.Calls.{row-in}
+use Rattle.replay_calls.specs.RecordedCalls.{rowOf, frontNumber, roomOf}
+use Rattle.replay_calls.proofs.RecordedCalls.{row-in}
 use Rattle.replay_calls.proofs.Meaning.{row-known}
 use Rattle.replay_good_calls.specs.GoodCalls.{fewest, most, bodyGood, sideGood, isCall, IsCall, GoodCalls}
 use Rattle.replay_good_calls.proofs.GoodCalls.{body-none, body-some, side-other, side-there, call-cut, call-is}
@@ -51,7 +51,8 @@ module _ (call : List ℕ) where
 
   call-numbered : isCall call ≡ true → 2 ≤ length call
   call-numbered t =
-      ⊎-elim (λ u. absurd (false≢true (call-cut call (ltb-true (length call) 2 u) ∙ t))) (λ u. ltb-false (length call) 2 u) (known (ltb (length call) 2))
+      ⊎-elim (λ u. absurd (false≢true (call-cut call (ltb-true (length call) 2 u) ∙ t))) (λ u. ltb-false (length call) 2 u)
+      (known (ltb (length call) 2))
 
   side-from : Long which (length call - 2) → sideGood which call ≡ true → which ≡ 258 → getD call 2 0 ≤ 1
   side-from h t e =

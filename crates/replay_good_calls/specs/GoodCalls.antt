@@ -8,7 +8,7 @@ use mathlib.Core.Logic.{_↔_}
 use lib.Dec.{eqb, ltb, leb}
 use lib.ListN.{length, getD}
 use Rattle.base_laws.specs.Tests.{choose}
-use Rattle.replay_calls.specs.Calls.{rowOf, frontNumber, roomOf}
+use Rattle.replay_calls.specs.RecordedCalls.{rowOf, frontNumber, roomOf}
 
 -- ── the table of calls, from number 257 on, as in `replay_calls` ──
 

@@ -91,7 +91,8 @@ module _ (s : LossSession) where
   abbrev intervals : List ℕ
   intervals = field 4 (s .intervals)
 
-  signed-there : (p q : List ℕ) (at : ℕ) (v : ℤ) → sessionOctets s ≡ p ++ signed v ++ q → length p ≡ at → SFits w64 v → signedAt at (sessionOctets s) ≡ v
+  signed-there : (p q : List ℕ) (at : ℕ) (v : ℤ) → sessionOctets s ≡ p ++ signed v ++ q → length p ≡ at → SFits w64 v
+      → signedAt at (sessionOctets s) ≡ v
   signed-there p q at v e hp fits =
       ap (λ (m : List ℕ). toZ w64 (number littleEndian m)) (part-among p (signed v) q at 8 e hp (length-octets littleEndian 8 (ofZ w64 v)))
       ∙ signed-octets v fits
@@ -99,35 +100,50 @@ module _ (s : LossSession) where
   module _ (h : FieldsHold s) where
     kept-here : fieldAt 0 1 (sessionOctets s) ≡ s .kept
     unfolding sessionOctets
-    kept-here = number-among littleEndian 1 (s .kept) [] (txf ++ rxf ++ txb ++ ours ++ near ++ far ++ intervals) 0 (simp append-assoc) refl (h .kept)
+    kept-here =
+        number-among littleEndian 1 (s .kept) [] (txf ++ rxf ++ txb ++ ours ++ near ++ far ++ intervals) 0 (simp append-assoc) refl
+        (h .kept)
 
     txf-here : fieldAt 1 4 (sessionOctets s) ≡ s .last .txf
     unfolding sessionOctets
-    txf-here = number-among littleEndian 4 (s .last .txf) kept (rxf ++ txb ++ ours ++ near ++ far ++ intervals) 1 (simp append-assoc) (simp length-octets) (h .txf)
+    txf-here =
+        number-among littleEndian 4 (s .last .txf) kept (rxf ++ txb ++ ours ++ near ++ far ++ intervals) 1 (simp append-assoc)
+        (simp length-octets) (h .txf)
 
     rxf-here : fieldAt 5 4 (sessionOctets s) ≡ s .last .rxf
     unfolding sessionOctets
-    rxf-here = number-among littleEndian 4 (s .last .rxf) (kept ++ txf) (txb ++ ours ++ near ++ far ++ intervals) 5 (simp append-assoc) (simp (length-append, length-octets)) (h .rxf)
+    rxf-here =
+        number-among littleEndian 4 (s .last .rxf) (kept ++ txf) (txb ++ ours ++ near ++ far ++ intervals) 5 (simp append-assoc)
+        (simp (length-append, length-octets)) (h .rxf)
 
     txb-here : fieldAt 9 4 (sessionOctets s) ≡ s .last .txb
     unfolding sessionOctets
-    txb-here = number-among littleEndian 4 (s .last .txb) (kept ++ txf ++ rxf) (ours ++ near ++ far ++ intervals) 9 (simp append-assoc) (simp (length-append, length-octets)) (h .txb)
+    txb-here =
+        number-among littleEndian 4 (s .last .txb) (kept ++ txf ++ rxf) (ours ++ near ++ far ++ intervals) 9 (simp append-assoc)
+        (simp (length-append, length-octets)) (h .txb)
 
     ours-here : fieldAt 13 4 (sessionOctets s) ≡ s .last .ours
     unfolding sessionOctets
-    ours-here = number-among littleEndian 4 (s .last .ours) (kept ++ txf ++ rxf ++ txb) (near ++ far ++ intervals) 13 (simp append-assoc) (simp (length-append, length-octets)) (h .ours)
+    ours-here =
+        number-among littleEndian 4 (s .last .ours) (kept ++ txf ++ rxf ++ txb) (near ++ far ++ intervals) 13 (simp append-assoc)
+        (simp (length-append, length-octets)) (h .ours)
 
     near-here : signedAt 17 (sessionOctets s) ≡ s .near
     unfolding sessionOctets
-    near-here = signed-there (kept ++ txf ++ rxf ++ txb ++ ours) (far ++ intervals) 17 (s .near) (simp append-assoc) (simp (length-append, length-octets)) (h .near)
+    near-here =
+        signed-there (kept ++ txf ++ rxf ++ txb ++ ours) (far ++ intervals) 17 (s .near) (simp append-assoc)
+        (simp (length-append, length-octets)) (h .near)
 
     far-here : signedAt 25 (sessionOctets s) ≡ s .far
     unfolding sessionOctets
-    far-here = signed-there (kept ++ txf ++ rxf ++ txb ++ ours ++ near) intervals 25 (s .far) refl (simp (length-append, length-octets)) (h .far)
+    far-here =
+        signed-there (kept ++ txf ++ rxf ++ txb ++ ours ++ near) intervals 25 (s .far) refl (simp (length-append, length-octets)) (h .far)
 
     intervals-here : fieldAt 33 4 (sessionOctets s) ≡ s .intervals
     unfolding sessionOctets
-    intervals-here = number-among littleEndian 4 (s .intervals) (kept ++ txf ++ rxf ++ txb ++ ours ++ near ++ far) [] 33 (sym (append-nil _)) (simp (length-append, length-octets)) (h .intervals)
+    intervals-here =
+        number-among littleEndian 4 (s .intervals) (kept ++ txf ++ rxf ++ txb ++ ours ++ near ++ far) [] 33 (sym (append-nil _))
+        (simp (length-append, length-octets)) (h .intervals)
 
 pub back : (s : LossSession) → FieldsHold s → sessionAt (sessionOctets s) ≡ s
 back s h =

@@ -33,7 +33,8 @@ running-long : (counts timers rdi others : List ℕ) → length counts ≡ 2 →
 unfolding runningOctets
 running-long counts timers rdi others c t r o = simp (length-append, words-long, c, t, r, o)
 
-pub state-long : (s : State) → Shaped slots (s .settings) → length (s .timers) ≡ slots → length (s .rdi) ≡ slots → length (stateOctets s) ≡ 194
+pub state-long : (s : State) → Shaped slots (s .settings) → length (s .timers) ≡ slots → length (s .rdi) ≡ slots
+    → length (stateOctets s) ≡ 194
 unfolding stateOctets
 state-long s w t r =
     let counts = s .sent ∷ s .received ∷ [] in
@@ -48,7 +49,8 @@ state-long s w t r =
 
 -- ── the pieces laid ──
 
-pub running-laid : (counts timers rdi others l : List ℕ) {b c d r : List ℕ} → length counts ≡ 2 → length timers ≡ slots → length rdi ≡ slots → length others ≡ 7
+pub running-laid : (counts timers rdi others l : List ℕ) {b c d r : List ℕ} → length counts ≡ 2 → length timers ≡ slots → length rdi ≡ slots
+    → length others ≡ 7
     → 157 ≤ length l
     → b ≡ laid 81 (wordsOctets 4 counts) l
     → c ≡ laid 89 (wordsOctets 4 timers) b
@@ -62,9 +64,11 @@ running-laid counts timers rdi others l n t i o h e1 e2 e3 e4 =
     let p3 = more 8 (wordsOctets 1 rdi) p2 e3 (words-long 1 rdi ∙ ap (λ (k : ℕ). 1 * k) i) (omega arith) in
     more 28 (wordsOctets 4 others) p3 e4 (words-long 4 others ∙ ap (λ (k : ℕ). 4 * k) o) (omega arith) .is
 
-pub state-laid : (s : State) (l : List ℕ) {a e r : List ℕ} → Shaped slots (s .settings) → length (s .timers) ≡ slots → length (s .rdi) ≡ slots → length l ≡ 194
+pub state-laid : (s : State) (l : List ℕ) {a e r : List ℕ} → Shaped slots (s .settings) → length (s .timers) ≡ slots
+    → length (s .rdi) ≡ slots → length l ≡ 194
     → a ≡ laid 0 (settingsBody (s .settings)) l
-    → e ≡ laid 81 (runningOctets (s .sent ∷ s .received ∷ []) (s .timers) (s .rdi) (s .mismerge ∷ s .unexpected-mep ∷ s .unexpected-period ∷ s .unexpected-level ∷ s .ais ∷ s .lck ∷ s .next ∷ [])) a
+    → e ≡ laid 81 (runningOctets (s .sent ∷ s .received ∷ []) (s .timers) (s .rdi)
+    (s .mismerge ∷ s .unexpected-mep ∷ s .unexpected-period ∷ s .unexpected-level ∷ s .ais ∷ s .lck ∷ s .next ∷ [])) a
     → r ≡ laid 157 (sessionOctets (s .session)) e
     → r ≡ stateOctets s
 unfolding stateOctets
@@ -72,7 +76,8 @@ state-laid s l w t i h e1 e2 e3 =
     let counts = s .sent ∷ s .received ∷ [] in
     let others = s .mismerge ∷ s .unexpected-mep ∷ s .unexpected-period ∷ s .unexpected-level ∷ s .ais ∷ s .lck ∷ s .next ∷ [] in
     let p1 = first 0 81 (settingsBody (s .settings)) l e1 (long slots (s .settings) w) in
-    let p2 = more 76 (runningOctets counts (s .timers) (s .rdi) others) p1 e2 (running-long counts (s .timers) (s .rdi) others refl t i refl) (omega arith) in
+    let p2 = more 76 (runningOctets counts (s .timers) (s .rdi) others) p1 e2
+    (running-long counts (s .timers) (s .rdi) others refl t i refl) (omega arith) in
     let p3 = more 37 (sessionOctets (s .session)) p2 e3 (session.session-long (s .session)) (omega arith) in
     p3 .is ∙ laid-whole l (stateOctets s) 194 h (p3 .long)
 
@@ -81,7 +86,8 @@ state-laid s l w t i h e1 e2 e3 =
 module _ (octets : List ℕ) where
   pub lies : 194 ≤ length octets → shown (arraysOf (stateAt octets)) ≡ stateAt octets
   lies h =
-      let w : Shaped slots (settingsIn slots (part 0 81 octets)) = shaped slots (part 0 81 octets) (rw (length-part 0 81 octets (omega arith)) (omega arith)) in
+      let w : Shaped slots (settingsIn slots (part 0 81 octets)) =
+      shaped slots (part 0 81 octets) (rw (length-part 0 81 octets (omega arith)) (omega arith)) in
       rw (lying .back slots (settingsIn slots (part 0 81 octets)) w)
 
   module _ (l : length octets ≡ 194) (h : Octets octets) where
@@ -93,7 +99,8 @@ module _ (octets : List ℕ) where
 
     counts-again : wordsOctets 4 (fieldAt 81 4 octets ∷ fieldAt 85 4 octets ∷ []) ≡ part 81 8 octets
     unfolding wordsOctets
-    counts-again = rw (field-again 81 (omega arith), field-again 85 (omega arith), append-nil (part 85 4 octets), ← part-append 81 4 4 octets)
+    counts-again =
+        rw (field-again 81 (omega arith), field-again 85 (omega arith), append-nil (part 85 4 octets), ← part-append 81 4 4 octets)
 
     words-here : (n k at : ℕ) → at + n * k ≤ 194 → wordsOctets n (wordsIn n k (drop at octets)) ≡ part at (n * k) octets
     words-here n k at fits =
@@ -102,7 +109,8 @@ module _ (octets : List ℕ) where
         ∙ ap (λ (m : ℕ). part m (n * k) octets) (add-zero at)
 
     others-again : wordsOctets 4
-        (fieldAt 129 4 octets ∷ fieldAt 133 4 octets ∷ fieldAt 137 4 octets ∷ fieldAt 141 4 octets ∷ fieldAt 145 4 octets ∷ fieldAt 149 4 octets ∷ fieldAt 153 4 octets ∷ [])
+        (fieldAt 129 4 octets ∷ fieldAt 133 4 octets ∷ fieldAt 137 4 octets ∷ fieldAt 141 4 octets ∷ fieldAt 145 4 octets ∷ fieldAt 149 4
+        octets ∷ fieldAt 153 4 octets ∷ [])
         ≡ part 129 28 octets
     unfolding wordsOctets
     others-again =
@@ -126,8 +134,10 @@ module _ (octets : List ℕ) where
     session-again : sessionOctets (sessionAt (part 157 37 octets)) ≡ part 157 37 octets
     session-again = session.again (part 157 37 octets) (length-part 157 37 octets (omega arith)) (part-octets 157 37 octets h)
 
-    running-again : runningOctets (fieldAt 81 4 octets ∷ fieldAt 85 4 octets ∷ []) (wordsIn 4 slots (drop 89 octets)) (wordsIn 1 slots (drop 121 octets))
-        (fieldAt 129 4 octets ∷ fieldAt 133 4 octets ∷ fieldAt 137 4 octets ∷ fieldAt 141 4 octets ∷ fieldAt 145 4 octets ∷ fieldAt 149 4 octets ∷ fieldAt 153 4 octets ∷ [])
+    running-again : runningOctets (fieldAt 81 4 octets ∷ fieldAt 85 4 octets ∷ []) (wordsIn 4 slots (drop 89 octets))
+        (wordsIn 1 slots (drop 121 octets))
+        (fieldAt 129 4 octets ∷ fieldAt 133 4 octets ∷ fieldAt 137 4 octets ∷ fieldAt 141 4 octets ∷ fieldAt 145 4 octets ∷ fieldAt 149 4
+        octets ∷ fieldAt 153 4 octets ∷ [])
         ≡ part 81 76 octets
     unfolding runningOctets
     running-again =

@@ -31,7 +31,8 @@ module _ (n : ℕ) where
   pub words-long : (words : List ℕ) → length (wordsOctets n words) ≡ n * length words
   unfolding wordsOctets
   words-long [] = sym (mul-zero n)
-  words-long (word ∷ words) = rw (length-append, length-octets littleEndian n word, words-long words, mul-suc n (length words)) (omega arith)
+  words-long (word ∷ words) =
+      rw (length-append, length-octets littleEndian n word, words-long words, mul-suc n (length words)) (omega arith)
 
   pub words-many : (k : ℕ) (octets : List ℕ) → length (wordsIn n k octets) ≡ k
   unfolding wordsIn
@@ -57,7 +58,8 @@ module _ (n : ℕ) where
       let first = number-here littleEndian n word [] (wordsOctets n words) 0 refl (small 0) in
       rw (first, drop-at (field n word) (wordsOctets n words) n (length-octets littleEndian n word), words-back words (λ i. small (suc i)))
 
-  pub words-again : (k : ℕ) (octets : List ℕ) → n * k ≤ length octets → Octets octets → wordsOctets n (wordsIn n k octets) ≡ part 0 (n * k) octets
+  pub words-again : (k : ℕ) (octets : List ℕ) → n * k ≤ length octets → Octets octets
+      → wordsOctets n (wordsIn n k octets) ≡ part 0 (n * k) octets
   unfolding wordsOctets wordsIn
   words-again zero octets fits h = rw (mul-zero n) (sym (part-none 0 octets))
   words-again (suc k) octets fits h =
@@ -66,7 +68,15 @@ module _ (n : ℕ) where
       let same : n + 0 ≡ 0 + n = omega arith in
       let more : wordsOctets n (wordsIn n k rest) ≡ part 0 (n * k) rest =
       words-again k rest (rw length-drop (omega (arith, e))) (λ i. rw (getD-drop n octets i 0) (h (n + i))) in
-      rw (read-again littleEndian n 0 octets (omega (arith, e)) h, more, part-drop n 0 (n * k) octets, e, part-append 0 n (n * k) octets, same)
+      rw (
+        read-again littleEndian n 0 octets (omega (arith, e)) h,
+        more,
+        part-drop n 0 (n * k) octets,
+        e,
+        part-append 0 n
+            (n * k) octets,
+        same,
+      )
 
   -- ── the loop that reads ──
 
@@ -91,7 +101,8 @@ module _ (n : ℕ) where
       (ap (λ (k : ℕ). set (laid 0 (wordsIn n i octets) l) k v) (sym (omega (arith, long)))
       ∙ laid-more 0 (wordsIn n i octets) l v (omega (arith, long)))
 
-  pub read-all : (at i : ℕ) (from l : List ℕ) {x : List ℕ} → x ≡ laid 0 (wordsIn n i (drop at from)) l → i ≡ length l → x ≡ wordsIn n (length l) (drop at from)
+  pub read-all : (at i : ℕ) (from l : List ℕ) {x : List ℕ} → x ≡ laid 0 (wordsIn n i (drop at from)) l → i ≡ length l
+      → x ≡ wordsIn n (length l) (drop at from)
   read-all at i from l e h =
       e ∙ laid-whole l (wordsIn n i (drop at from)) i (sym h) (words-many i (drop at from)) ∙ ap (λ (k : ℕ). wordsIn n k (drop at from)) h
 
@@ -102,7 +113,8 @@ module _ (n : ℕ) where
   octets-append [] m = refl
   octets-append (word ∷ l) m = rw (octets-append l m) (sym (append-assoc (field n word) (wordsOctets n l) (wordsOctets n m)))
 
-  write-more : (i : ℕ) (words : List ℕ) → i < length words → wordsOctets n (take (i + 1) words) ≡ wordsOctets n (take i words) ++ field n (getD words i 0)
+  write-more : (i : ℕ) (words : List ℕ) → i < length words
+      → wordsOctets n (take (i + 1) words) ≡ wordsOctets n (take i words) ++ field n (getD words i 0)
   unfolding wordsOctets
   write-more i words h =
       rw (add-one, take-suc words i 0 h, octets-append (take i words) (getD words i 0 ∷ []), append-nil (field n (getD words i 0)))
@@ -112,7 +124,8 @@ module _ (n : ℕ) where
   write-start at words l = sym (laid-none at l)
 
   pub write-turn : (at i : ℕ) (words l : List ℕ) → i < length words → at + n * length words ≤ length l
-      → laid (at + n * i) (field n (getD words i 0)) (laid at (wordsOctets n (take i words)) l) ≡ laid at (wordsOctets n (take (i + 1) words)) l
+      → laid (at + n * i) (field n (getD words i 0)) (laid at (wordsOctets n (take i words)) l) ≡ laid at
+      (wordsOctets n (take (i + 1) words)) l
   write-turn at i words l h fits =
       let word = getD words i 0 in
       let each = length-octets littleEndian n word in

@@ -12,7 +12,8 @@ use Rattle.loss_session.specs.declared.LossSession.{LossSession}
 use Rattle.state_view.specs.declared.StateArrays.{StateArrays}
 use Rattle.state_view.specs.State.{runWords, lossTotals, State, viewOf, shown, runOf, totalsOf}
 use Rattle.state_view.specs.Arguments.{anew}
-use Rattle.state_view.specs.Changed.{Word, mismerge, unexpected-level, unexpected-mep, unexpected-period, ais, lck, next, sent, received, placeOf, put, withSession, lowered}
+use Rattle.state_view.specs.Changed.{Word, mismerge, unexpected-level, unexpected-mep, unexpected-period, ais, lck, next, sent, received}
+use Rattle.state_view.specs.Changed.{placeOf, put, withSession, lowered}
 use Rattle.state_places.specs.Stored.{Whole, Stores}
 
 -- what holds of running words that are spelled holds of any, and so of totals

@@ -55,12 +55,15 @@ module _ (count mep : ℕ) (ids : List ℕ) where
       let n : count ≤ length ids = leb-true count (length ids) (p .0) in
       let long : length (take count ids) ≡ count = length-take-le count ids n in
       let id : (i : ℕ) → i < count → idGood mep (getD ids i 0) ≡ true =
-      λ i k. ap (idGood mep) (sym (getD-take count ids i 0 k)) ∙ every-is (idGood mep) (take count ids) 0 .0 (r .0) i (omega (arith, long)) in
+      λ i k. ap (idGood mep) (sym (getD-take count ids i 0 k))
+      ∙ every-is (idGood mep) (take count ids) 0 .0 (r .0) i (omega (arith, long)) in
       record {
         enough = n;
         used = λ i k. mep-to (getD ids i 0) (split (mepGood (getD ids i 0)) (not (eqb (getD ids i 0) mep)) (id i k) .0);
-        others = λ i k. eqb-false (getD ids i 0) mep (not-true (eqb (getD ids i 0) mep) (split (mepGood (getD ids i 0)) (not (eqb (getD ids i 0) mep)) (id i k) .1));
-        distinct-all = λ i j a b e. distinct-is (take count ids) .0 (r .1) i j a (omega (arith, long)) (getD-take count ids i 0 (omega arith) ∙ e ∙ sym (getD-take count ids j 0 b));
+        others = λ i k. eqb-false (getD ids i 0) mep
+            (not-true (eqb (getD ids i 0) mep) (split (mepGood (getD ids i 0)) (not (eqb (getD ids i 0) mep)) (id i k) .1));
+        distinct-all = λ i j a b e. distinct-is (take count ids) .0 (r .1) i j a (omega (arith, long))
+            (getD-take count ids i 0 (omega arith) ∙ e ∙ sym (getD-take count ids j 0 b));
         unused = λ i k. rest i k (q .1);
       }
     where
@@ -84,14 +87,16 @@ module _ (count mep : ℕ) (ids : List ℕ) where
       let each = every-is (idGood mep) (take count ids) 0 .1 (λ i k.
       let h : i < count = omega (arith, long) in
       ap (idGood mep) (getD-take count ids i 0 h)
-      ∙ join (mepGood (getD ids i 0)) (not (eqb (getD ids i 0) mep)) (mep-from (getD ids i 0) (s .used i h)) (ap not (ne-eqb (getD ids i 0) mep (s .others i h)))) in
+      ∙ join (mepGood (getD ids i 0)) (not (eqb (getD ids i 0) mep)) (mep-from (getD ids i 0) (s .used i h))
+      (ap not (ne-eqb (getD ids i 0) mep (s .others i h)))) in
       let apart = distinct-is (take count ids) .1 (λ i j a b e.
       let hj : j < count = omega (arith, long) in
       s .distinct-all i j a hj (sym (getD-take count ids i 0 (omega arith)) ∙ e ∙ getD-take count ids j 0 hj)) in
       let zeros = every-is (within 0) (drop count ids) 0 .1 (λ i k.
       le-leb (getD (drop count ids) i 0) 0 (omega (arith, getD-drop count ids i 0, s .unused (count + i) (omega arith)))) in
       join (leb count (length ids)) _ (le-leb count (length ids) n)
-      (join (every (idGood mep) (take count ids) && distinct (take count ids)) (every (within 0) (drop count ids)) (join (every (idGood mep) (take count ids)) (distinct (take count ids)) each apart) zeros)
+      (join (every (idGood mep) (take count ids) && distinct (take count ids)) (every (within 0) (drop count ids))
+      (join (every (idGood mep) (take count ids)) (distinct (take count ids)) each apart) zeros)
 
 -- ── all of them ──
 
@@ -127,11 +132,15 @@ module _ (s : Settings) where
   from : Valid s → valid s ≡ true
   unfolding valid
   from v =
-      let slots : Slots (s .count) (s .mep) (s .ids) = record { enough = v .slots; used = v .used; others = v .others; distinct-all = v .distinct; unused = v .unused } in
-      let period = join (leb 1 (s .period)) (leb (s .period) 7) (le-leb 1 (s .period) (v .some-period)) (le-leb (s .period) 7 (v .period)) in
+      let slots : Slots (s .count) (s .mep) (s .ids) =
+      record { enough = v .slots; used = v .used; others = v .others; distinct-all = v .distinct; unused = v .unused } in
+      let period = join (leb 1 (s .period)) (leb (s .period) 7) (le-leb 1 (s .period) (v .some-period))
+      (le-leb (s .period) 7 (v .period)) in
       let first = join (leb (s .level) 7) (mepGood (s .mep)) (le-leb (s .level) 7 (v .level)) (mep-from (s .mep) (v .mep)) in
-      let numbers = join _ (leb 1 (s .count)) (join (leb (s .level) 7 && mepGood (s .mep)) (leb 1 (s .period) && leb (s .period) 7) first period) (le-leb 1 (s .count) (v .some-peer)) in
-      let bits = join (eqb (groupBit (s .own)) 0) (eqb (groupBit (s .losspeer)) 0) (eq-eqb (groupBit (s .own)) 0 (v .own)) (eq-eqb (groupBit (s .losspeer)) 0 (v .losspeer)) in
+      let numbers = join _ (leb 1 (s .count)) (join (leb (s .level) 7 && mepGood (s .mep))
+      (leb 1 (s .period) && leb (s .period) 7) first period) (le-leb 1 (s .count) (v .some-peer)) in
+      let bits = join (eqb (groupBit (s .own)) 0) (eqb (groupBit (s .losspeer)) 0) (eq-eqb (groupBit (s .own)) 0 (v .own))
+      (eq-eqb (groupBit (s .losspeer)) 0 (v .losspeer)) in
       join (numbersGood (s .level) (s .mep) (s .period) (s .count)) _ numbers
       (join (addressesGood (s .own) (s .losspeer)) (peersGood (s .count) (s .mep) (s .ids))
       (join _ (not (same (s .own) (s .losspeer))) bits (differ-from (s .own) (s .losspeer) (v .differ)))

@@ -6,19 +6,8 @@ use native.Mathlib.Omega.{arith}
 use lib.ListN.{length, take}
 use lib.Seq.{length-take-le}
 use Rattle.base_laws.proofs.Parts.{length-part}
-use Rattle.state_settings.specs.Settings.{
-  slots,
-  settingsOf,
-  Shaped,
-  nameOctets,
-  addressOctets,
-  megOctets,
-  ownFrom,
-  losspeerFrom,
-  megFrom,
-  addressAt,
-  megNamed,
-}
+use Rattle.state_settings.specs.Settings.{slots, settingsOf, Shaped, nameOctets, addressOctets, megOctets, ownFrom, losspeerFrom}
+use Rattle.state_settings.specs.Settings.{megFrom, addressAt, megNamed}
 
 -- what lies among names of their length
 module _ (names : List ℕ) (whole : length names ≡ nameOctets) where

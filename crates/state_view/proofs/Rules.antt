@@ -60,7 +60,8 @@ module _ (s : State) where
       let t2 = split _ (leb (s .unexpected-mep) hold) (t3 .0) in
       let t1 = split (leb (s .mismerge) hold) (leb (s .unexpected-level) hold) (t2 .0) in
       let x = split (leb 1 (s .next)) (leb (s .next) (ticksOf (s .settings .period))) (c .0) in
-      let p = split (every (within hold) (s .timers) && every (within 0) (drop n (s .timers))) (every (within 1) (s .rdi) && every (within 0) (drop n (s .rdi))) (d .0) in
+      let p = split (every (within hold) (s .timers) && every (within 0) (drop n (s .timers)))
+      (every (within 1) (s .rdi) && every (within 0) (drop n (s .rdi))) (d .0) in
       let q = split (every (within hold) (s .timers)) (every (within 0) (drop n (s .timers))) (p .0) in
       let r = split (every (within 1) (s .rdi)) (every (within 0) (drop n (s .rdi))) (p .1) in
       record {
@@ -85,18 +86,23 @@ module _ (s : State) where
   from w =
       let hold = ownMost s in
       let n = s .settings .count in
-      let t1 = join (leb (s .mismerge) hold) (leb (s .unexpected-level) hold) (le-leb (s .mismerge) hold (w .mismerge)) (le-leb (s .unexpected-level) hold (w .unexpected-level)) in
+      let t1 = join (leb (s .mismerge) hold) (leb (s .unexpected-level) hold) (le-leb (s .mismerge) hold (w .mismerge))
+      (le-leb (s .unexpected-level) hold (w .unexpected-level)) in
       let t2 = join _ (leb (s .unexpected-mep) hold) t1 (le-leb (s .unexpected-mep) hold (w .unexpected-mep)) in
       let t3 = join _ (leb (s .unexpected-period) hold) t2 (le-leb (s .unexpected-period) hold (w .unexpected-period)) in
       let t4 = join _ (leb (s .ais) alarmMost) t3 (le-leb (s .ais) alarmMost (w .ais)) in
       let t5 = join _ (leb (s .lck) alarmMost) t4 (le-leb (s .lck) alarmMost (w .lck)) in
-      let x = join (leb 1 (s .next)) (leb (s .next) (ticksOf (s .settings .period))) (le-leb 1 (s .next) (w .some-tick)) (le-leb (s .next) (ticksOf (s .settings .period)) (w .next)) in
-      let q = join (every (within hold) (s .timers)) (every (within 0) (drop n (s .timers))) (within-from hold (s .timers) (w .timers)) (none-from n (s .timers) (w .no-timer)) in
-      let r = join (every (within 1) (s .rdi)) (every (within 0) (drop n (s .rdi))) (within-from 1 (s .rdi) (w .rdi)) (none-from n (s .rdi) (w .no-rdi)) in
+      let x = join (leb 1 (s .next)) (leb (s .next) (ticksOf (s .settings .period))) (le-leb 1 (s .next) (w .some-tick))
+      (le-leb (s .next) (ticksOf (s .settings .period)) (w .next)) in
+      let q = join (every (within hold) (s .timers)) (every (within 0) (drop n (s .timers))) (within-from hold (s .timers) (w .timers))
+      (none-from n (s .timers) (w .no-timer)) in
+      let r = join (every (within 1) (s .rdi)) (every (within 0) (drop n (s .rdi))) (within-from 1 (s .rdi) (w .rdi))
+      (none-from n (s .rdi) (w .no-rdi)) in
       join (valid (s .settings)) _ (Settings.valid-is .valid-is (s .settings) .1 (w .settings))
       (join (timersGood s hold) _ t5
       (join (nextGood (s .next) (ticksOf (s .settings .period))) _ x
-      (join (slotsGood (s .timers) (s .rdi) n hold) (Session.wellFormed (s .session)) (join _ _ q r) (Sessions.well (s .session) .1 (w .session)))))
+      (join (slotsGood (s .timers) (s .rdi) n hold) (Session.wellFormed (s .session)) (join _ _ q r)
+      (Sessions.well (s .session) .1 (w .session)))))
 
 -- a well-formed session put into a well-formed state leaves it so
 pub session-put : (s : State) (x : LossSession) → Session.WellFormed x → WellFormed s → WellFormed (withSession x s)

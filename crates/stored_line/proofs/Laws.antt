@@ -18,7 +18,7 @@ use Rattle.base_octets.specs.Octets.{Octets}
 use Rattle.base_numbers.specs.Numbers.{littleEndian, number, inOctets}
 use Rattle.base_numbers.proofs.Laws.{length-octets, number-back, read-again}
 use Rattle.base_signed.proofs.Laws.{signed-octets, signed-again}
-use Rattle.loss_session.specs.Session.{Side, near, far, totalOf, WellFormed}
+use Rattle.loss_session.specs.Session.{LossEnd, near, far, totalOf, WellFormed}
 use Rattle.loss_session.proofs.Laws.{well}
 use Rattle.stored_record.proofs.Laws.{record-long}
 use Rattle.stored_line.specs.declared.LossLine.{LossLine}
@@ -33,7 +33,7 @@ module _ (line : LossLine) where
   rules-from : KeepsRules line → WellFormed (sessionOf line)
   rules-from k = record { flag = omega arith; few = k .few; nothing = λ e. absurd (omega (arith, e)); total = total }
     where
-      total : (d : Side) → natAbs (totalOf d (sessionOf line)) ≤ line .intervals * 4294967295
+      total : (d : LossEnd) → natAbs (totalOf d (sessionOf line)) ≤ line .intervals * 4294967295
       total near = k .near
       total far = k .far
 
@@ -91,23 +91,32 @@ module _ (line : LossLine) (octets : List ℕ) (long : 24 ≤ length octets) (he
 
   near-is : part 4 8 octets ≡ n
   unfolding lineBody
-  near-is = field 0 8 (omega arith) ∙ ap (part 0 8) (append-assoc n f i) ∙ part-here [] n (f ++ i) 0 8 refl (length-octets littleEndian 8 (ofZ w64 (line .near)))
+  near-is =
+      field 0 8 (omega arith) ∙ ap (part 0 8) (append-assoc n f i)
+      ∙ part-here [] n (f ++ i) 0 8 refl (length-octets littleEndian 8 (ofZ w64 (line .near)))
 
   far-is : part 12 8 octets ≡ f
   unfolding lineBody
-  far-is = field 8 8 (omega arith) ∙ part-here n f i 8 8 (length-octets littleEndian 8 (ofZ w64 (line .near))) (length-octets littleEndian 8 (ofZ w64 (line .far)))
+  far-is =
+      field 8 8 (omega arith) ∙ part-here n f i 8 8 (length-octets littleEndian 8 (ofZ w64 (line .near)))
+      (length-octets littleEndian 8 (ofZ w64 (line .far)))
 
   intervals-is : part 20 4 octets ≡ i
   unfolding lineBody
-  intervals-is = field 16 4 (omega arith) ∙ ap (part 16 4) (sym (append-nil (n ++ f ++ i))) ∙ part-here (n ++ f) i [] 16 4 (simp (length-append, length-octets)) (length-octets littleEndian 4 (line .intervals))
+  intervals-is =
+      field 16 4 (omega arith) ∙ ap (part 16 4) (sym (append-nil (n ++ f ++ i)))
+      ∙ part-here (n ++ f) i [] 16 4 (simp (length-append, length-octets)) (length-octets littleEndian 4 (line .intervals))
 
   -- the line comes back from its body
   pub line-back : KeepsRules line → lineIn octets ≡ line
   unfolding lineIn
   line-back k =
-      let a : signedAt 4 octets ≡ line .near = ap (λ (l : List ℕ). toZ w64 (number littleEndian l)) near-is ∙ signed-octets (line .near) (near-fits line k) in
-      let b : signedAt 12 octets ≡ line .far = ap (λ (l : List ℕ). toZ w64 (number littleEndian l)) far-is ∙ signed-octets (line .far) (far-fits line k) in
-      let c : number littleEndian (part 20 4 octets) ≡ line .intervals = ap (number littleEndian) intervals-is ∙ number-back littleEndian 4 (line .intervals) (few-fit line k) in
+      let a : signedAt 4 octets ≡ line .near = ap (λ (l : List ℕ). toZ w64 (number littleEndian l)) near-is
+      ∙ signed-octets (line .near) (near-fits line k) in
+      let b : signedAt 12 octets ≡ line .far = ap (λ (l : List ℕ). toZ w64 (number littleEndian l)) far-is
+      ∙ signed-octets (line .far) (far-fits line k) in
+      let c : number littleEndian (part 20 4 octets) ≡ line .intervals = ap (number littleEndian) intervals-is
+      ∙ number-back littleEndian 4 (line .intervals) (few-fit line k) in
       rw (a, b, c)
 
 -- three parts side by side, part by part

@@ -1,4 +1,4 @@
--- How reading a loss line ends, and what it means: the reader's part of specs/Calls.antt. Assumes nothing.
+-- How reading a loss line ends, and what it means: the reader's part of specs/LineCalls.antt. Assumes nothing.
 use Prim.Native.Nat.{ℕ, _≤_}
 use mathlib.Core.Path.{_≡_, refl, sym, ap, _∙_}
 use mathlib.Core.List.{List, _++_}
@@ -19,7 +19,7 @@ use Rattle.stored_line.specs.declared.LossLine.{LossLine}
 use Rattle.stored_line.specs.declared.LineAnswer.{LineAnswer}
 use Rattle.stored_line.specs.declared.LineAnswer.the-variants.{Refused, Line}
 use Rattle.stored_line.specs.Line.{KeepsRules, keepsRules, lineBody, lineRecord, lineIn}
-use Rattle.stored_line.specs.Calls.{readLine, told, numbersOf}
+use Rattle.stored_line.specs.LineCalls.{readLine, lineTold, lineNumbers}
 use Rattle.stored_line.proofs.Laws.{rules, body-long, line-back, body-again}
 
 -- ── reading: one law for each way ──
@@ -37,18 +37,18 @@ module _ (octets : List ℕ) where
   unfolding readLine choose
   at-line h k = rw (h, k)
 
-  pub agree : told (readLine octets) ≡ numbersOf octets
-  unfolding readLine told numbersOf
-  agree = choose-map told _ _
+  pub agree : lineTold (readLine octets) ≡ lineNumbers octets
+  unfolding readLine lineTold lineNumbers
+  agree = choose-map lineTold _ _
 
   -- ── the same from what the code knows ──
 
   -- r is the answer, and is told by its numbers
   abbrev pub Answered : LineAnswer → Type 0
-  Answered r = (r ≡ readLine octets) × (told r ≡ numbersOf octets)
+  Answered r = (r ≡ readLine octets) × (lineTold r ≡ lineNumbers octets)
 
   told-so : {r : LineAnswer} → r ≡ readLine octets → Answered r
-  told-so e = (e, ap told e ∙ agree)
+  told-so e = (e, ap lineTold e ∙ agree)
 
   pub ends-head : {b : Bool} → b ≡ isRecord 2 20 octets → not b ≡ true → Answered Refused
   ends-head {b} e h = told-so (sym (at-head (sym e ∙ not-true b h)))
@@ -56,7 +56,8 @@ module _ (octets : List ℕ) where
   pub long-enough : {b : Bool} → b ≡ isRecord 2 20 octets → not b ≡ false → 24 ≤ length octets
   long-enough {b} e h = omega (arith, record-to 2 20 octets (sym e ∙ not-false b h) .whole)
 
-  module _ {b d : Bool} {line : LossLine} (e : b ≡ isRecord 2 20 octets) (h : not b ≡ false) (l : line ≡ lineIn octets) (f : d ≡ keepsRules line) where
+  module _ {b d : Bool} {line : LossLine} (e : b ≡ isRecord 2 20 octets) (h : not b ≡ false) (l : line ≡ lineIn octets)
+      (f : d ≡ keepsRules line) where
     pub ends-rule : not d ≡ true → Answered Refused
     ends-rule k = told-so (sym (at-rule (sym e ∙ not-false b h) (ap keepsRules (sym l) ∙ sym f ∙ not-true d k)))
 
@@ -66,8 +67,8 @@ module _ (octets : List ℕ) where
 -- ── reading: the statement ──
 
 refused-not : {line : LossLine} → Refused ≡ Line line → ⊥
-unfolding told
-refused-not {line} e = eqb-false 7 0 refl (ap (λ (r : LineAnswer). told r .refusal) e)
+unfolding lineTold
+refused-not {line} e = eqb-false 7 0 refl (ap (λ (r : LineAnswer). lineTold r .refusal) e)
 
 -- the line of an answer
 lineOf : LineAnswer → LossLine → LossLine
@@ -96,7 +97,8 @@ module _ (octets : List ℕ) where
   pub seven-from : Way → NoRecord 2 20 octets ⊎ (KeepsRules (lineIn octets) → ⊥) → readLine octets ≡ Refused
   seven-from (no-record h) w = at-head octets h
   seven-from (no-rule h k) w = at-rule octets h k
-  seven-from (a-line h k) w = absurd (⊎-elim (λ n. true≢false (sym h ∙ records .is-not 2 20 octets .1 n)) (λ n. n (rules (lineIn octets) .0 k)) w)
+  seven-from (a-line h k) w =
+      absurd (⊎-elim (λ n. true≢false (sym h ∙ records .is-not 2 20 octets .1 n)) (λ n. n (rules (lineIn octets) .0 k)) w)
 
   -- what is known of a line that was read
   record Found (line : LossLine) : Type 0 where
@@ -122,7 +124,14 @@ module _ (octets : List ℕ) where
 
   pub alone : (rest : List ℕ) → 24 ≤ length octets → readLine (octets ++ rest) ≡ readLine octets
   unfolding readLine lineIn
-  alone rest h = rw (records .front-alone 2 20 octets rest h, part-front 4 8 octets rest (omega arith), part-front 12 8 octets rest (omega arith), part-front 20 4 octets rest (omega arith))
+  alone rest h =
+      rw (
+        records .front-alone 2 20 octets rest h,
+        part-front 4 8 octets rest (omega arith),
+        part-front 12 8 octets rest
+            (omega arith),
+        part-front 20 4 octets rest (omega arith),
+      )
 
 pub written-back : (line : LossLine) (rest : List ℕ) → KeepsRules line → readLine (lineRecord line ++ rest) ≡ Line line
 written-back line rest k =

@@ -1,4 +1,4 @@
--- How writing a loss line ends, and the statement of specs/Calls.antt. Assumes nothing.
+-- How writing a loss line ends, and the statement of specs/LineCalls.antt. Assumes nothing.
 use Prim.Native.Nat.{ℕ, _+_, _≤_, _<_}
 use mathlib.Core.Path.{_≡_, sym, ap, _∙_}
 use mathlib.Core.List.{List}
@@ -17,14 +17,16 @@ use Rattle.stored_record.proofs.Writing.{writing}
 use Rattle.stored_line.specs.declared.LossLine.{LossLine}
 use Rattle.stored_line.specs.declared.LineAnswer.the-variants.{Refused}
 use Rattle.stored_line.specs.Line.{KeepsRules, keepsRules, lineBody, lineRecord}
-use Rattle.stored_line.specs.Calls.{readLine, writeLine, seven, told, numbersOf, LossRecords}
+use Rattle.stored_line.specs.LineCalls.{readLine, writeLine, seven, lineTold, lineNumbers, LossRecords}
 use Rattle.stored_line.proofs.Laws.{rules, body-long}
 use Rattle.stored_line.proofs.LineReads.{agree, way, seven-to, seven-from, kept, again, alone, written-back}
 
 module _ (line : LossLine) (buffer : List ℕ) where
   four-to : writeLine line buffer .answer ≡ stored.BreaksRule → KeepsRules line → ⊥
   unfolding writeLine
-  four-to e = ⊎-elim (failed (rules line)) (λ n. absurd (omega (arith, n, body-long line))) (writing .refuses-4 (keepsRules line) 2 (lineBody line) buffer .0 e)
+  four-to e =
+      ⊎-elim (failed (rules line)) (λ n. absurd (omega (arith, n, body-long line)))
+      (writing .refuses-4 (keepsRules line) 2 (lineBody line) buffer .0 e)
 
   four-from : (KeepsRules line → ⊥) → writeLine line buffer .answer ≡ stored.BreaksRule
   unfolding writeLine
@@ -38,9 +40,11 @@ module _ (line : LossLine) (buffer : List ℕ) where
 
   three-from : KeepsRules line × (length buffer < 24) → writeLine line buffer .answer ≡ stored.NoRoom
   unfolding writeLine
-  three-from h = writing .refuses-3 (keepsRules line) 2 (lineBody line) buffer .1 (rules line .1 (h .0), omega (arith, body-long line), omega (arith, h .1, body-long line))
+  three-from h =
+      writing .refuses-3 (keepsRules line) 2 (lineBody line) buffer .1
+      (rules line .1 (h .0), omega (arith, body-long line), omega (arith, h .1, body-long line))
 
-  untouched : (writing.told (writeLine line buffer .answer) .refusal ≡ 0 → ⊥) → writeLine line buffer .buffer ≡ buffer
+  untouched : (writing.recordTold (writeLine line buffer .answer) .refusal ≡ 0 → ⊥) → writeLine line buffer .buffer ≡ buffer
   unfolding writeLine
   untouched n = writing .refused (keepsRules line) 2 (lineBody line) buffer n
 
@@ -52,9 +56,9 @@ module _ (line : LossLine) (buffer : List ℕ) where
       ∙ writing .writes 2 (lineBody line) buffer (omega (arith, long)) (omega (arith, long))
       ∙ ap (λ (n : ℕ). wrote (stored.Octets (4 + n)) (laid 0 (lineRecord line) buffer)) long
 
-zeros : (octets : List ℕ) → readLine octets ≡ Refused → numbersOf octets ≡ seven
-unfolding told
-zeros octets e = sym (agree octets) ∙ ap told e
+zeros : (octets : List ℕ) → readLine octets ≡ Refused → lineNumbers octets ≡ seven
+unfolding lineTold
+zeros octets e = sym (agree octets) ∙ ap lineTold e
 
 pub loss-records : LossRecords
 loss-records = record {

@@ -1,7 +1,7 @@
 // What a stored loss line is, kind 2, and what reading and writing one give, in cases and in the paper's numbers.
 // It holds the two totals of a session and the intervals that they cover.
 ghost use mathlib.Core.Path.{_≡_};
-ghost use Rattle.stored_line.specs.Calls.{told};
+ghost use Rattle.stored_line.specs.LineCalls.{lineTold};
 
 // The octets of the whole record.
 pub const LINE: usize = 24;
@@ -33,7 +33,7 @@ pub struct LineTold {
 
 // An answer in the paper's numbers.
 pub fn tell(answer: LineAnswer) -> LineTold
-    ensures { λ r. ⌜ r ≡ told answer ⌝ }
+    ensures { λ r. ⌜ r ≡ lineTold answer ⌝ }
 {
     match answer {
         LineAnswer::Refused => LineTold {

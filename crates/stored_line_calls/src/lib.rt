@@ -5,7 +5,7 @@ ghost use lib.ListN.{length};
 ghost use Rattle.base_laws.specs.Ended.{wrote};
 ghost use Rattle.stored_record.specs.Writing as written;
 ghost use Rattle.stored_line.specs.Line.{keepsRules, lineIn};
-ghost use Rattle.stored_line.specs.Calls.{readLine, writeLine, writtenNumbers, told, numbersOf};
+ghost use Rattle.stored_line.specs.LineCalls.{readLine, writeLine, lineWrittenNumbers, lineTold, lineNumbers};
 use base_numbers::read_little;
 use base_numbers::write_little;
 use base_signed::read_little_signed;
@@ -63,7 +63,7 @@ fn line_in(from: &[u8]) -> LossLine
 
 // Reads the loss line at the front of the octets. What stands behind its record is not looked at.
 pub fn read_line(from: &[u8]) -> LineAnswer
-    ensures { λ r. ⌜ (r ≡ readLine (now (from .entry))) × (told r ≡ numbersOf (now (from .entry))) ⌝ }
+    ensures { λ r. ⌜ (r ≡ readLine (now (from .entry))) × (lineTold r ≡ lineNumbers (now (from .entry))) ⌝ }
 {
     if !is_record(from, KIND, BODY) {
         return LineAnswer::Refused;
@@ -78,7 +78,7 @@ pub fn read_line(from: &[u8]) -> LineAnswer
 // Writes a loss line's record into the front of the buffer: refused with 4 where it breaks a rule, and then with 3 where there is no room.
 pub fn write_line(into: &mut [u8], line: LossLine) -> RecordAnswer
     ensures { λ r. ⌜ (wrote r (now (into .exit)) ≡ writeLine line (now (into .entry)))
-        × (written.told r ≡ writtenNumbers line (now (into .entry))) ⌝ }
+        × (written.recordTold r ≡ lineWrittenNumbers line (now (into .entry))) ⌝ }
 {
     let mut body = [0u8; BODY];
     write_little_signed(&mut body, 0, line.near);

@@ -16,7 +16,7 @@ use Rattle.loss_session.specs.declared.Readings.{Readings}
 use Rattle.loss_session.specs.declared.LossSession.{LossSession}
 use Rattle.loss_session.specs.Session.{near, far, clearedSession, WellFormed, wellFormed, mostIntervals, mostReadings}
 use Rattle.loss_reading.specs.Reading.{afterReading}
-use Rattle.loss_reading.specs.Told.{numbersOf}
+use Rattle.loss_reading.specs.Told.{lossNumbers}
 use Rattle.loss_reading.proofs.Refusals.{sessions}
 use Rattle.stored_line.specs.Line.{KeepsRules}
 use Rattle.loss_account.specs.Account.{Truth, GoesOn, Sound}
@@ -68,8 +68,8 @@ pub line-kept : (rs : List Readings) → KeepsRules (lineOf (leaves afterReading
 line-kept rs = let w = well rs in record { few = w .few; near = w .total near; far = w .total far }
 
 -- it takes another reply while there are fewer than 1,000,000,001
-pub takes-more : (s : LossSession) (r : Readings) → WellFormed s → s .intervals < mostIntervals → numbersOf s r .refusal ≡ 0
-unfolding numbersOf choose
+pub takes-more : (s : LossSession) (r : Readings) → WellFormed s → s .intervals < mostIntervals → lossNumbers s r .refusal ≡ 0
+unfolding lossNumbers choose
 takes-more s r w few = by (known (eqb (s .kept) 0))
   where
     good : wellFormed s ≡ true
@@ -78,6 +78,6 @@ takes-more s r w few = by (known (eqb (s .kept) 0))
     room : eqb (s .intervals) mostIntervals ≡ false
     room = ne-eqb (s .intervals) mostIntervals (λ e. omega (arith, few, e))
 
-    by : (eqb (s .kept) 0 ≡ true) ⊎ (eqb (s .kept) 0 ≡ false) → numbersOf s r .refusal ≡ 0
+    by : (eqb (s .kept) 0 ≡ true) ⊎ (eqb (s .kept) 0 ≡ false) → lossNumbers s r .refusal ≡ 0
     by (inl t) = rw (good, t)
     by (inr f) = rw (good, f, room)

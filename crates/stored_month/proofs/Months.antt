@@ -11,7 +11,7 @@ use Rattle.loss_session.specs.declared.LossSession.{LossSession}
 use Rattle.loss_reading.specs.declared.Updated.{Updated}
 use Rattle.loss_session.specs.Session.{near, far, clearedSession, mostReadings}
 use Rattle.loss_reading.specs.Reading.{afterReading}
-use Rattle.loss_reading.specs.Told.{told, numbersOf}
+use Rattle.loss_reading.specs.Told.{lossTold, lossNumbers}
 use Rattle.loss_reading.proofs.Numbers.{told-numbers}
 use Rattle.base_number_text.specs.Decimal.{decimal, digitsOf, leading}
 use Rattle.stored_line.specs.declared.LossLine.{LossLine}
@@ -54,15 +54,19 @@ goes (t ∷ ts) before few steady = by (goes ts (before ++ (t ∷ [])) (rw (appe
     long = length-append before (t ∷ [])
 
     line : lineOf (reached (before ++ (t ∷ []))) ≡ accountLine (before ++ (t ∷ []))
-    line = line-is (before ++ (t ∷ [])) (omega (arith, few, count, long)) (steady-front (before ++ (t ∷ [])) ts (rw (append-snoc before t ts) steady))
+    line =
+        line-is (before ++ (t ∷ [])) (omega (arith, few, count, long))
+        (steady-front (before ++ (t ∷ [])) ts (rw (append-snoc before t ts) steady))
 
     kept : KeepsRules (accountLine (before ++ (t ∷ [])))
     kept = rw line at (line-kept (map shown (before ++ (t ∷ []))))
 
     intervals : reached before .intervals ≡ length before - 1
-    intervals = meets .intervals (map shown before) (omega (arith, length-map before shown, few, count)) ∙ ap (λ (n : ℕ). n - 1) (length-map before shown)
+    intervals =
+        meets .intervals (map shown before) (omega (arith, length-map before shown, few, count))
+        ∙ ap (λ (n : ℕ). n - 1) (length-map before shown)
 
-    taken : numbersOf (reached before) (shown t) .refusal ≡ 0
+    taken : lossNumbers (reached before) (shown t) .refusal ≡ 0
     taken = takes-more (reached before) (shown t) (well (map shown before)) (omega (arith, intervals, few, count))
 
     now-at : worked (reached before) (shown t ∷ map shown ts)
@@ -73,10 +77,12 @@ goes (t ∷ ts) before few steady = by (goes ts (before ++ (t ∷ [])) (rw (appe
         ∙ ap (λ (l : LossLine). behind (lineRecord l) 1 (worked (reached (before ++ (t ∷ []))) (map shown ts))) line
 
     by : Goes (worked (reached (before ++ (t ∷ []))) (map shown ts)) (accountLines (before ++ (t ∷ [])) ts) (length ts)
-        → Goes (worked (reached before) (shown t ∷ map shown ts)) (accountLine (before ++ (t ∷ [])) ∷ accountLines (before ++ (t ∷ [])) ts) (suc (length ts))
+        → Goes (worked (reached before) (shown t ∷ map shown ts)) (accountLine (before ++ (t ∷ [])) ∷ accountLines (before ++ (t ∷ [])) ts)
+        (suc (length ts))
     by more =
         let rest = accountLines (before ++ (t ∷ [])) ts in
-        let all : Goes (behind (lineRecord (accountLine (before ++ (t ∷ [])))) 1 (worked (reached (before ++ (t ∷ []))) (map shown ts))) (accountLine (before ++ (t ∷ [])) ∷ rest) (suc (length ts)) =
+        let all : Goes (behind (lineRecord (accountLine (before ++ (t ∷ [])))) 1 (worked (reached (before ++ (t ∷ []))) (map shown ts)))
+        (accountLine (before ++ (t ∷ [])) ∷ rest) (suc (length ts)) =
         record {
           records-are = ap (λ (l : List ℕ). lineRecord (accountLine (before ++ (t ∷ []))) ++ l) (more .records-are);
           goes-through = more .goes-through;
@@ -98,14 +104,16 @@ module _ (ts : List Counts) (few : length ts ≤ mostReadings) (steady : Steady 
   sheet : sheetOf (recounted (rawReplies (map shown ts)) .records) ≡ headerText ++ textsOf (accountLines [] ts)
   sheet =
       ap sheetOf (month .records-are)
-      ∙ ap (λ (l : List ℕ). headerText ++ l) (sym (sheets .only (recordsOf (accountLines [] ts)) (textsOf (accountLines [] ts)) (month .printed)))
+      ∙ ap (λ (l : List ℕ). headerText ++ l) (sym (sheets .only (recordsOf (accountLines [] ts)) (textsOf (accountLines [] ts))
+      (month .printed)))
 
 full : (rs more : List Readings) (r : Readings) → mostReadings ≤ length rs
     → worked (leaves afterReading clearedSession rs) (r ∷ more) ≡ stopped 5 (leaves afterReading clearedSession rs)
-unfolding told
+unfolding lossTold
 full rs more r many =
     let s = leaves afterReading clearedSession rs in
-    let five : numbersOf s r .refusal ≡ 5 = ap (λ n. n .refusal) (sym (told-numbers s r)) ∙ ap (λ (u : Updated). told (u .answer) .refusal) (meets .later rs r many) in
+    let five : lossNumbers s r .refusal ≡ 5 = ap (λ n. n .refusal) (sym (told-numbers s r))
+    ∙ ap (λ (u : Updated). lossTold (u .answer) .refusal) (meets .later rs r many) in
     worked-refused s r more (λ z. omega (arith, five, z)) ∙ ap (λ (n : ℕ). stopped n s) five
 
 -- the grain quay's true counts are what it read
@@ -127,7 +135,9 @@ quay-text = refl
 
 grain-quay : sheetOf (recounted (rawReplies quay) .records) ≡ quaySheet
 unfolding quay-counts
-grain-quay = ap (λ (rs : List Readings). sheetOf (recounted (rawReplies rs) .records)) (sym quay-shown) ∙ sheet quay-counts (omega arith) quay-steady ∙ quay-text
+grain-quay =
+    ap (λ (rs : List Readings). sheetOf (recounted (rawReplies rs) .records)) (sym quay-shown) ∙ sheet quay-counts (omega arith) quay-steady
+    ∙ quay-text
 
 pub months : Months
 months = record {

@@ -8,7 +8,7 @@ use lib.Seq.{drop-at}
 use Rattle.base_numbers.specs.Numbers.{littleEndian, inOctets}
 use Rattle.base_numbers.proofs.Laws.{length-octets, number-among}
 use Rattle.loss_session.specs.declared.Readings.{Readings}
-use Rattle.loss_session.specs.Session.{Side, readings, near, far, sentOf, receivedOf}
+use Rattle.loss_session.specs.Session.{LossEnd, readings, near, far, sentOf, receivedOf}
 use Rattle.stored_sheet.specs.Sheet.{joined}
 use Rattle.loss_account.specs.Demand3.{Counts, shown, Small}
 use Rattle.stored_replies.specs.Replies.{readingsIn, repliesIn, replies}
@@ -35,13 +35,14 @@ module _ (r : Readings) (rest : List ℕ) where
   unfolding rawReply
   raw-long = simp (length-append, length-octets)
 
-  pub reply-back : ((side : Side) → (sentOf side r < 2 ^ 32) × (receivedOf side r < 2 ^ 32)) → readingsIn (rawReply r ++ rest) ≡ r
+  pub reply-back : ((side : LossEnd) → (sentOf side r < 2 ^ 32) × (receivedOf side r < 2 ^ 32)) → readingsIn (rawReply r ++ rest) ≡ r
   unfolding rawReply
   reply-back small =
       made r
       (number-among littleEndian 4 (r .txf) [] (b ++ c ++ d ++ rest) 0 (simp append-assoc) refl (small far .0))
       (number-among littleEndian 4 (r .rxf) a (c ++ d ++ rest) 4 (simp append-assoc) (length-octets littleEndian 4 (r .txf)) (small far .1))
-      (number-among littleEndian 4 (r .txb) (a ++ b) (d ++ rest) 8 (simp append-assoc) (simp (length-append, length-octets)) (small near .0))
+      (number-among littleEndian 4 (r .txb) (a ++ b) (d ++ rest) 8 (simp append-assoc) (simp (length-append, length-octets))
+      (small near .0))
       (number-among littleEndian 4 (r .ours) (a ++ b ++ c) rest 12 refl (simp (length-append, length-octets)) (small near .1))
 
 raws-long : (rs : List Readings) → length (rawReplies rs) ≡ length rs * 16
@@ -66,6 +67,6 @@ pub shown-small : (ts : List Counts) → Small (map shown ts)
 shown-small [] = tt
 shown-small (t ∷ ts) = (each, shown-small ts)
   where
-    each : (side : Side) → (sentOf side (shown t) < 2 ^ 32) × (receivedOf side (shown t) < 2 ^ 32)
+    each : (side : LossEnd) → (sentOf side (shown t) < 2 ^ 32) × (receivedOf side (shown t) < 2 ^ 32)
     each near = (omega arith, omega arith)
     each far = (omega arith, omega arith)

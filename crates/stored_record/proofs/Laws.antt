@@ -34,7 +34,8 @@ pub record-laid : (kind : ℕ) (body l : List ℕ) {x y z : List ℕ} → 4 + le
 unfolding headOf recordOf
 record-laid kind body l h e f g =
     let same : length body + 2 ≡ 2 + length body = omega arith in
-    let one = first 0 2 (inOctets littleEndian 2 (2 + length body)) l (e ∙ ap (λ (n : ℕ). laid 0 (inOctets littleEndian 2 n) l) same) (length-octets littleEndian 2 (2 + length body)) in
+    let one = first 0 2 (inOctets littleEndian 2 (2 + length body)) l (e ∙ ap (λ (n : ℕ). laid 0 (inOctets littleEndian 2 n) l) same)
+    (length-octets littleEndian 2 (2 + length body)) in
     let two = more 2 (inOctets littleEndian 2 kind) one f (length-octets littleEndian 2 kind) (omega arith) in
     more (length body) body two g refl (omega arith) .is
 
@@ -54,13 +55,15 @@ module _ (kind : ℕ) (body rest : List ℕ) (few : kind < 2 ^ 16) (short : 2 + 
 
   size-back : lengthField (recordOf kind body ++ rest) ≡ 2 + length body
   size-back =
-      ap (number littleEndian) (ap (part 0 2) shape ∙ part-here [] size (sort ++ (body ++ rest)) 0 2 refl (length-octets littleEndian 2 (2 + length body)))
+      ap (number littleEndian) (ap (part 0 2) shape
+      ∙ part-here [] size (sort ++ (body ++ rest)) 0 2 refl (length-octets littleEndian 2 (2 + length body)))
       ∙ number-back littleEndian 2 (2 + length body) short
 
   kind-back : kindField (recordOf kind body ++ rest) ≡ kind
   kind-back =
       ap (number littleEndian)
-      (ap (part 2 2) (shape ∙ sym (append-assoc size sort (body ++ rest))) ∙ part-here size sort (body ++ rest) 2 2 (length-octets littleEndian 2 (2 + length body)) (length-octets littleEndian 2 kind))
+      (ap (part 2 2) (shape ∙ sym (append-assoc size sort (body ++ rest)))
+      ∙ part-here size sort (body ++ rest) 2 2 (length-octets littleEndian 2 (2 + length body)) (length-octets littleEndian 2 kind))
       ∙ number-back littleEndian 2 kind few
 
   pub body-back : part 4 (length body) (recordOf kind body ++ rest) ≡ body
@@ -69,7 +72,8 @@ module _ (kind : ℕ) (body rest : List ℕ) (few : kind < 2 ^ 16) (short : 2 + 
 
   pub is-written : IsRecord kind (length body) (recordOf kind body ++ rest)
   is-written =
-      let long : length (recordOf kind body ++ rest) ≡ 4 + length body + length rest = length-append (recordOf kind body) rest ∙ ap (λ (n : ℕ). n + length rest) (record-long kind body) in
+      let long : length (recordOf kind body ++ rest) ≡ 4 + length body + length rest = length-append (recordOf kind body) rest
+      ∙ ap (λ (n : ℕ). n + length rest) (record-long kind body) in
       record { head = omega (arith, long); length-is = size-back; kind-is = kind-back; whole = omega (arith, long) }
 
 module _ (kind body : ℕ) (octets : List ℕ) where
@@ -78,11 +82,14 @@ module _ (kind body : ℕ) (octets : List ℕ) where
   record-again all r =
       let long : length (part 4 body octets) ≡ body = length-part 4 body octets (omega (arith, r .whole)) in
       let size : part 0 2 octets ≡ inOctets littleEndian 2 (2 + length (part 4 body octets)) =
-      sym (read-again littleEndian 2 0 octets (omega (arith, r .head)) all) ∙ ap (inOctets littleEndian 2) (r .length-is ∙ ap (λ (n : ℕ). 2 + n) (sym long)) in
+      sym (read-again littleEndian 2 0 octets (omega (arith, r .head)) all)
+      ∙ ap (inOctets littleEndian 2) (r .length-is ∙ ap (λ (n : ℕ). 2 + n) (sym long)) in
       let sort : part 2 2 octets ≡ inOctets littleEndian 2 kind =
       sym (read-again littleEndian 2 2 octets (omega (arith, r .head)) all) ∙ ap (inOctets littleEndian 2) (r .kind-is) in
       part-append 0 4 body octets
-      ∙ ap (λ (l : List ℕ). l ++ part 4 body octets) (part-append 0 2 2 octets ∙ ap (λ (l : List ℕ). l ++ part 2 2 octets) size ∙ ap (λ (l : List ℕ). inOctets littleEndian 2 (2 + length (part 4 body octets)) ++ l) sort)
+      ∙ ap (λ (l : List ℕ). l ++ part 4 body octets)
+      (part-append 0 2 2 octets ∙ ap (λ (l : List ℕ). l ++ part 2 2 octets) size
+      ∙ ap (λ (l : List ℕ). inOctets littleEndian 2 (2 + length (part 4 body octets)) ++ l) sort)
 
   pub front-alone : (rest : List ℕ) → 4 + body ≤ length octets → isRecord kind body (octets ++ rest) ≡ isRecord kind body octets
   front-alone rest h = ⊎-elim
@@ -100,7 +107,8 @@ module _ (kind body : ℕ) (octets : List ℕ) where
       sort = ap (number littleEndian) (part-front 2 2 octets rest (omega arith))
 
       longer : IsRecord kind body octets → IsRecord kind body (octets ++ rest)
-      longer r = record { head = omega (arith, long); length-is = size ∙ r .length-is; kind-is = sort ∙ r .kind-is; whole = omega (arith, long) }
+      longer r =
+          record { head = omega (arith, long); length-is = size ∙ r .length-is; kind-is = sort ∙ r .kind-is; whole = omega (arith, long) }
 
       less : NoRecord kind body octets → NoRecord kind body (octets ++ rest)
       less (no-head n) = absurd (omega (arith, n))

@@ -13,7 +13,8 @@ use Rattle.stored_record.specs.Record.{lengthField, kindField, IsRecord,
 use Rattle.stored_record.specs.Record.{isRecord}
 
 module _ (kind body : ℕ) (octets : List ℕ) where
-  tests : isRecord kind body octets ≡ true → (leb (4 + body) (length octets) ≡ true) × (eqb (lengthField octets) (2 + body) ≡ true) × (eqb (kindField octets) kind ≡ true)
+  tests : isRecord kind body octets ≡ true → (leb (4 + body) (length octets) ≡ true) × (eqb (lengthField octets) (2 + body) ≡ true)
+      × (eqb (kindField octets) kind ≡ true)
   unfolding isRecord
   tests h =
       let a = both-true (leb (4 + body) (length octets)) (eqb (lengthField octets) (2 + body) && eqb (kindField octets) kind) .0 h in
@@ -30,14 +31,19 @@ module _ (kind body : ℕ) (octets : List ℕ) where
   unfolding isRecord
   record-from r =
       let long : 4 + body ≤ length octets = omega (arith, r .whole) in
-      both-true (leb (4 + body) (length octets)) _ .1 (le-leb _ _ long, both-true (eqb (lengthField octets) (2 + body)) (eqb (kindField octets) kind) .1 (eq-eqb _ _ (r .length-is), eq-eqb _ _ (r .kind-is)))
+      both-true (leb (4 + body) (length octets)) _ .1 (
+        le-leb _ _ long,
+        both-true (eqb (lengthField octets) (2 + body)) (eqb (kindField octets) kind) .1
+            (eq-eqb _ _ (r .length-is), eq-eqb _ _ (r .kind-is)),
+      )
 
   pub none-to : isRecord kind body octets ≡ false → NoRecord kind body octets
   unfolding isRecord
   none-to h = ⊎-elim
       (λ long. ⊎-elim
       (λ field. ⊎-elim
-      (λ k. absurd (true≢false (sym (both-true (leb (4 + body) (length octets)) _ .1 (long, both-true (eqb (lengthField octets) (2 + body)) (eqb (kindField octets) kind) .1 (field, k))) ∙ h)))
+      (λ k. absurd (true≢false (sym (both-true (leb (4 + body) (length octets)) _ .1
+      (long, both-true (eqb (lengthField octets) (2 + body)) (eqb (kindField octets) kind) .1 (field, k))) ∙ h)))
       (λ k. wrong-kind (eqb-false _ _ k))
       (known (eqb (kindField octets) kind)))
       (λ field. wrong-length (eqb-false _ _ field))
@@ -58,7 +64,8 @@ module _ (kind body : ℕ) (octets : List ℕ) where
 pub too-short : (kind body : ℕ) (octets : List ℕ) → length octets < 4 + body → false ≡ isRecord kind body octets
 too-short kind body octets h = sym (none-from kind body octets (cut-short (omega (arith, h))))
 
-pub fields-tell : (kind body : ℕ) (octets : List ℕ) {size sort : ℕ} → 4 + body ≤ length octets → size ≡ lengthField octets → sort ≡ kindField octets
+pub fields-tell : (kind body : ℕ) (octets : List ℕ) {size sort : ℕ} → 4 + body ≤ length octets → size ≡ lengthField octets
+    → sort ≡ kindField octets
     → (eqb size (body + 2) && eqb sort kind) ≡ isRecord kind body octets
 unfolding isRecord
 fields-tell kind body octets h e f =

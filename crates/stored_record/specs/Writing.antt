@@ -26,22 +26,22 @@ writeRecord good kind body buffer =
 
 -- ── in the paper's numbers ──
 
-abbrev pub numbers : ℕ → ℕ → RecordTold
-numbers refusal long = record { refusal = refusal; length = long }
+abbrev pub tellRecord : ℕ → ℕ → RecordTold
+tellRecord refusal long = record { refusal = refusal; length = long }
 
-unfoldable pub told : RecordAnswer → RecordTold
-told BreaksRule = numbers 4 0
-told NoRoom = numbers 3 0
-told (Octets n) = numbers 0 n
+unfoldable pub recordTold : RecordAnswer → RecordTold
+recordTold BreaksRule = tellRecord 4 0
+recordTold NoRoom = tellRecord 3 0
+recordTold (Octets n) = tellRecord 0 n
 
 -- the same from what is given alone
-unfoldable pub numbersOf : Bool → List ℕ → List ℕ → RecordTold
-numbersOf good body buffer =
+unfoldable pub recordNumbers : Bool → List ℕ → List ℕ → RecordTold
+recordNumbers good body buffer =
     choose (
-    (not good || ltb 65533 (length body), numbers 4 0)
-    ∷ (ltb (length buffer) (4 + length body), numbers 3 0)
+    (not good || ltb 65533 (length body), tellRecord 4 0)
+    ∷ (ltb (length buffer) (4 + length body), tellRecord 3 0)
     ∷ [])
-    (numbers 0 (4 + length body))
+    (tellRecord 0 (4 + length body))
 
 -- what is said of every record that is to be written
 pub record Writes : Type 0 where
@@ -52,10 +52,10 @@ pub record Writes : Type 0 where
       → (writeRecord good kind body buffer .answer ≡ NoRoom) ↔ ((good ≡ true) × (length body ≤ 65533) × (length buffer < 4 + length body))
   -- neither touches the buffer
   pub refused : (good : Bool) (kind : ℕ) (body buffer : List ℕ)
-      → ((told (writeRecord good kind body buffer .answer) .refusal ≡ 0) → ⊥) → writeRecord good kind body buffer .buffer ≡ buffer
+      → ((recordTold (writeRecord good kind body buffer .answer) .refusal ≡ 0) → ⊥) → writeRecord good kind body buffer .buffer ≡ buffer
   -- any other record is written, and the octets behind it stay
   pub writes : (kind : ℕ) (body buffer : List ℕ) → length body ≤ 65533 → 4 + length body ≤ length buffer
       → writeRecord true kind body buffer ≡ wrote (Octets (4 + length body)) (laid 0 (recordOf kind body) buffer)
   -- the answer is told in these numbers; beside a refusal the length is 0
-  pub agree : (good : Bool) (kind : ℕ) (body buffer : List ℕ) → told (writeRecord good kind body buffer .answer) ≡ numbersOf good body buffer
-  pub zeros : (answer : RecordAnswer) → ((told answer .refusal ≡ 0) → ⊥) → told answer .length ≡ 0
+  pub agree : (good : Bool) (kind : ℕ) (body buffer : List ℕ) → recordTold (writeRecord good kind body buffer .answer) ≡ recordNumbers good body buffer
+  pub zeros : (answer : RecordAnswer) → ((recordTold answer .refusal ≡ 0) → ⊥) → recordTold answer .length ≡ 0

@@ -2,7 +2,7 @@
 // The head is two octets with the length of all that follows them and two with the kind; then comes the body. What a record is stands in
 // specs/.
 ghost use mathlib.Core.Path.{_≡_};
-ghost use Rattle.stored_record.specs.Writing.{told, writeRecord, numbersOf};
+ghost use Rattle.stored_record.specs.Writing.{recordTold, writeRecord, recordNumbers};
 ghost use Prim.Native.Nat.{_+_, _≤_};
 ghost use lib.ListN.{length};
 ghost use Rattle.base_laws.specs.Ended.{wrote};
@@ -31,7 +31,7 @@ pub struct RecordTold {
 
 // An answer in the paper's numbers.
 pub fn tell(answer: RecordAnswer) -> RecordTold
-    ensures { λ r. ⌜ r ≡ told answer ⌝ }
+    ensures { λ r. ⌜ r ≡ recordTold answer ⌝ }
 {
     match answer {
         RecordAnswer::BreaksRule => RecordTold {
@@ -82,7 +82,7 @@ fn put_record(into: &mut [u8], kind: u16, body: &[u8])
 // buffer's room is looked at, and so is a body that no record can hold.
 pub fn write_record(into: &mut [u8], kind: u16, body: &[u8], good: bool) -> RecordAnswer
     ensures { λ r. ⌜ (wrote r (now (into .exit)) ≡ writeRecord good kind (now (body .entry)) (now (into .entry)))
-        × (told r ≡ numbersOf good (now (body .entry)) (now (into .entry))) ⌝ }
+        × (recordTold r ≡ recordNumbers good (now (body .entry)) (now (into .entry))) ⌝ }
 {
     if !good | (LONGEST < body.len()) {
         return RecordAnswer::BreaksRule;

@@ -14,7 +14,7 @@ use Rattle.base_laws.proofs.Tests.{known}
 use Rattle.loss_session.specs.declared.Readings.{Readings}
 use Rattle.loss_session.specs.declared.LossSession.{LossSession}
 use Rattle.loss_reading.specs.Reading.{afterReading}
-use Rattle.loss_reading.specs.Told.{numbersOf}
+use Rattle.loss_reading.specs.Told.{lossNumbers}
 use Rattle.stored_line.specs.Line.{lineRecord}
 use Rattle.stored_line.proofs.Laws.{line-long}
 use Rattle.stored_replies.specs.Replies.{repliesIn, replies, lineOf, Worked, stopped, behind, worked}
@@ -23,8 +23,8 @@ use Rattle.stored_replies.proofs.Laws.{replies-front, replies-both, wor
 use Rattle.stored_replies.proofs.Turns.{from-here}
 
 -- taken, or not
-decided : (s : LossSession) (r : Readings) → (numbersOf s r .refusal ≡ 0) ⊎ (numbersOf s r .refusal ≡ 0 → ⊥)
-decided s r = ⊎-elim (λ t. inl (eqb-true _ _ t)) (λ f. inr (eqb-false _ _ f)) (known (eqb (numbersOf s r .refusal) 0))
+decided : (s : LossSession) (r : Readings) → (lossNumbers s r .refusal ≡ 0) ⊎ (lossNumbers s r .refusal ≡ 0 → ⊥)
+decided s r = ⊎-elim (λ t. inl (eqb-true _ _ t)) (λ f. inr (eqb-false _ _ f)) (known (eqb (lossNumbers s r .refusal) 0))
 
 -- a record of 24 octets for each reply taken, and never more than there are
 pub record Sized (w : Worked) (n : ℕ) : Type 0 where
@@ -35,7 +35,8 @@ pub sized : (rs : List Readings) (s : LossSession) → Sized (worked s rs) (leng
 sized [] s = rw (worked-none s) (record { long = refl; most = omega arith })
 sized (r ∷ rs) s = by (sized rs (afterReading s r .session)) (decided s r)
   where
-    by : Sized (worked (afterReading s r .session) rs) (length rs) → (numbersOf s r .refusal ≡ 0) ⊎ (numbersOf s r .refusal ≡ 0 → ⊥) → Sized (worked s (r ∷ rs)) (length (r ∷ rs))
+    by : Sized (worked (afterReading s r .session) rs) (length rs) → (lossNumbers s r .refusal ≡ 0) ⊎ (lossNumbers s r .refusal ≡ 0 → ⊥)
+        → Sized (worked s (r ∷ rs)) (length (r ∷ rs))
     by more (inl e) =
         let w = worked (afterReading s r .session) rs in
         let line = lineRecord (lineOf (afterReading s r .session)) in
@@ -45,7 +46,7 @@ sized (r ∷ rs) s = by (sized rs (afterReading s r .session)) (decided s r)
         } in
         rw (worked-taken s r rs e) all
     by more (inr n) =
-        let none : Sized (stopped (numbersOf s r .refusal) s) (length (r ∷ rs)) = record { long = refl; most = omega arith } in
+        let none : Sized (stopped (lossNumbers s r .refusal) s) (length (r ∷ rs)) = record { long = refl; most = omega arith } in
         rw (worked-refused s r rs n) none
 
 pub replies-long : (n : ℕ) (octets : List ℕ) → length (repliesIn n octets) ≡ n
@@ -74,7 +75,8 @@ two (r ∷ rs) qs s = by (two rs qs (afterReading s r .session)) (decided s r)
         choose (inr b) = rw b
 
     by : worked (afterReading s r .session) (rs ++ qs) ≡ andThen (worked (afterReading s r .session) rs) (λ t. worked t qs)
-        → (numbersOf s r .refusal ≡ 0) ⊎ (numbersOf s r .refusal ≡ 0 → ⊥) → worked s (r ∷ (rs ++ qs)) ≡ andThen (worked s (r ∷ rs)) (λ t. worked t qs)
+        → (lossNumbers s r .refusal ≡ 0) ⊎ (lossNumbers s r .refusal ≡ 0 → ⊥)
+        → worked s (r ∷ (rs ++ qs)) ≡ andThen (worked s (r ∷ rs)) (λ t. worked t qs)
     by more (inl e) =
         worked-taken s r (rs ++ qs) e
         ∙ ap (behind line 1) more
@@ -85,8 +87,8 @@ two (r ∷ rs) qs s = by (two rs qs (afterReading s r .session)) (decided s r)
         ∙ stays
         ∙ ap (λ (w : Worked). andThen w (λ t. worked t qs)) (sym (worked-refused s r rs n))
       where
-        stays : stopped (numbersOf s r .refusal) s ≡ andThen (stopped (numbersOf s r .refusal) s) (λ t. worked t qs)
-        stays = rw (ne-eqb (numbersOf s r .refusal) 0 n)
+        stays : stopped (lossNumbers s r .refusal) s ≡ andThen (stopped (lossNumbers s r .refusal) s) (λ t. worked t qs)
+        stays = rw (ne-eqb (lossNumbers s r .refusal) 0 n)
 
 pub chunks : (s : LossSession) (chunk rest : List ℕ) (k : ℕ) → length chunk ≡ k * 16
     → worked s (replies (chunk ++ rest)) ≡ andThen (worked s (replies chunk)) (λ t. worked t (replies rest))
@@ -97,5 +99,6 @@ chunks s chunk rest k h =
     let parts : replies (chunk ++ rest) ≡ replies chunk ++ replies rest =
     ap (λ (n : ℕ). repliesIn n (chunk ++ rest)) all
     ∙ replies-both k (length rest / 16) (chunk ++ rest)
-    ∙ ap₂ (λ (a b : List Readings). a ++ b) (replies-front k chunk rest (omega (arith, h)) ∙ ap (λ (n : ℕ). repliesIn n chunk) (sym here)) (ap (repliesIn (length rest / 16)) behind-it) in
+    ∙ ap₂ (λ (a b : List Readings). a ++ b) (replies-front k chunk rest (omega (arith, h)) ∙ ap (λ (n : ℕ). repliesIn n chunk) (sym here))
+    (ap (repliesIn (length rest / 16)) behind-it) in
     ap (worked s) parts ∙ two (replies chunk) (replies rest) s

@@ -13,7 +13,7 @@ use Rattle.loss_session.specs.Session.{WellFormed, mostIntervals}
 use Rattle.loss_reading.specs.declared.LossTold.{LossTold}
 use Rattle.loss_reading.specs.declared.Updated.{Updated}
 use Rattle.loss_reading.specs.Reading.{afterReading}
-use Rattle.loss_reading.specs.Told.{told, numbersOf}
+use Rattle.loss_reading.specs.Told.{lossTold, lossNumbers}
 use Rattle.loss_reading.proofs.Laws.{Case, bad, begins, stops, measures, cases}
 use Rattle.loss_reading.proofs.Refusals.{sessions}
 use Rattle.loss_reading.proofs.Numbers.{told-numbers}
@@ -25,15 +25,15 @@ use Rattle.stored_replies.proofs.Chunks.{replies-long, chunks}
 
 -- one more reply: it is taken, and one fewer may follow; or the session takes none
 data Next (s : LossSession) (r : Readings) : Type 0 where
-  takes : numbersOf s r .refusal ≡ 0 → stillTakes s ≡ suc (stillTakes (afterReading s r .session)) → Next s r
-  full : numbersOf s r .refusal ≡ 5 → stillTakes s ≡ 0 → Next s r
+  takes : lossNumbers s r .refusal ≡ 0 → stillTakes s ≡ suc (stillTakes (afterReading s r .session)) → Next s r
+  full : lossNumbers s r .refusal ≡ 5 → stillTakes s ≡ 0 → Next s r
 
 next : (s : LossSession) (r : Readings) → WellFormed s → Next s r
-unfolding told
+unfolding lossTold
 next s r w = by (cases s r)
   where
-    number : {u : Updated} → afterReading s r ≡ u → numbersOf s r .refusal ≡ told (u .answer) .refusal
-    number e = ap (λ (n : LossTold). n .refusal) (sym (told-numbers s r)) ∙ ap (λ (v : Updated). told (v .answer) .refusal) e
+    number : {u : Updated} → afterReading s r ≡ u → lossNumbers s r .refusal ≡ lossTold (u .answer) .refusal
+    number e = ap (λ (n : LossTold). n .refusal) (sym (told-numbers s r)) ∙ ap (λ (v : Updated). lossTold (v .answer) .refusal) e
 
     by : Case s r → Next s r
     by (bad n e) = absurd (n w)
@@ -74,7 +74,7 @@ gone (r ∷ rs) s w = by (gone rs (afterReading s r .session) (sessions .stays s
         record { well = more .well; end = step (worked (afterReading s r .session) rs) d (more .end) } in
         rw (worked-taken s r rs e) all
     by more (full e z) =
-        let none : Gone s (length (r ∷ rs)) (stopped (numbersOf s r .refusal) s) =
+        let none : Gone s (length (r ∷ rs)) (stopped (lossNumbers s r .refusal) s) =
         record { well = w; end = inr (e, sym z, omega (arith, z), z) } in
         rw (worked-refused s r rs (λ n. omega (arith, e, n))) none
 

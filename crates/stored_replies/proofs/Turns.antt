@@ -16,7 +16,7 @@ use Rattle.loss_session.specs.declared.Readings.{Readings}
 use Rattle.loss_session.specs.declared.LossSession.{LossSession}
 use Rattle.loss_session.specs.Session.{wellFormed}
 use Rattle.loss_reading.specs.Reading.{afterReading}
-use Rattle.loss_reading.specs.Told.{numbersOf}
+use Rattle.loss_reading.specs.Told.{lossNumbers}
 use Rattle.loss_lent.specs.declared.Answered.{Answered}
 use Rattle.loss_lent.specs.Lent.{readingOf}
 use Rattle.stored_line.specs.Line.{KeepsRules, lineRecord}
@@ -37,7 +37,8 @@ module _ (s : LossSession) (octets buffer : List ℕ) where
   unfolding recountInto choose
   ends-no-room g h = rw (g, lt-ltb (length buffer / 24) (length octets / 16) h)
 
-  pub ends-worked : (w : Worked) {after : List ℕ} → wellFormed s ≡ true → length octets / 16 ≤ length buffer / 24 → worked s (replies octets) ≡ w
+  pub ends-worked : (w : Worked) {after : List ℕ} → wellFormed s ≡ true → length octets / 16 ≤ length buffer / 24
+      → worked s (replies octets) ≡ w
       → after ≡ laid 0 (w .records) buffer → wrote (workedAnswer w) after ≡ recountInto s octets buffer
   unfolding recountInto choose
   ends-worked w g h e f = rw (g, le-ltb (length buffer / 24) (length octets / 16) h, e, f)
@@ -75,7 +76,8 @@ nothing : (s : LossSession) (l : List ℕ) → worked s (repliesIn 0 l) ≡ stop
 unfolding repliesIn
 nothing s l = worked-none s
 
-module _ {start s : LossSession} {from before into : List ℕ} {i : ℕ} (t : SoFar start from before into i s) (g : wellFormed start ≡ true) (h : length from / 16 ≤ length before / 24) where
+module _ {start s : LossSession} {from before into : List ℕ} {i : ℕ} (t : SoFar start from before into i s) (g : wellFormed start ≡ true)
+    (h : length from / 16 ≤ length before / 24) where
   abbrev left : List ℕ
   left = drop (i * 16) from
 
@@ -85,7 +87,8 @@ module _ {start s : LossSession} {from before into : List ℕ} {i : ℕ} (t : So
       let none : length from / 16 - i ≡ 0 = omega (arith, k) in
       let all : i + 0 ≡ length from / 16 = omega (arith, k, t .within) in
       let w : worked start (replies from) ≡ record { records = t .records; halted = 0; taken = length from / 16; session = s } =
-      t .rest ∙ ap (λ (n : ℕ). behind (t .records) i (worked s (repliesIn n left))) none ∙ ap (behind (t .records) i) (nothing s left) ∙ rw (append-nil (t .records), all) in
+      t .rest ∙ ap (λ (n : ℕ). behind (t .records) i (worked s (repliesIn n left))) none ∙ ap (behind (t .records) i) (nothing s left)
+      ∙ rw (append-nil (t .records), all) in
       ends-worked start from before (record { records = t .records; halted = 0; taken = length from / 16; session = s }) g h w (t .is)
 
   -- one more reply is answered
@@ -99,7 +102,7 @@ module _ {start s : LossSession} {from before into : List ℕ} {i : ℕ} (t : So
     next : repliesIn (length from / 16 - i) left ≡ r ∷ others
     next = replies-next (length from / 16 - i) left (omega (arith, still))
 
-    refusal-is : a .told .refusal ≡ numbersOf s r .refusal
+    refusal-is : a .told .refusal ≡ lossNumbers s r .refusal
     refusal-is = ap (λ (x : Answered). x .told .refusal) f
 
     session-is : a .session ≡ afterReading s r .session
@@ -122,13 +125,15 @@ module _ {start s : LossSession} {from before into : List ℕ} {i : ℕ} (t : So
       pub turn-room : i * 24 + 24 ≤ length into
       turn-room = omega (arith, still, h, t .same)
 
-      pub turn-goes : {after : List ℕ} → after ≡ laid (i * 24) (lineRecord (lineOf (a .session))) into → SoFar start from before after (i + 1) (a .session)
+      pub turn-goes : {after : List ℕ} → after ≡ laid (i * 24) (lineRecord (lineOf (a .session))) into
+          → SoFar start from before after (i + 1) (a .session)
       turn-goes {after} put-there =
           let line = lineRecord (lineOf (a .session)) in
           let size = line-long (lineOf (a .session)) in
           let here : i * 24 ≡ 0 + length (t .records) = omega (arith, t .long) in
           let fits : 0 + length (t .records) + length line ≤ length before = omega (arith, size, t .long, turn-room, t .same) in
-          let put = more (length line) line (first 0 (length (t .records)) (t .records) before (t .is) refl) (put-there ∙ ap (λ (n : ℕ). laid n line into) here) refl fits in
+          let put = more (length line) line (first 0 (length (t .records)) (t .records) before (t .is) refl)
+          (put-there ∙ ap (λ (n : ℕ). laid n line into) here) refl fits in
           let place : i * 16 + 16 ≡ (i + 1) * 16 = omega arith in
           let one-more : drop 16 left ≡ drop ((i + 1) * 16) from = drop-drop 16 (i * 16) from ∙ ap (λ (n : ℕ). drop n from) place in
           let one-less : length from / 16 - i - 1 ≡ length from / 16 - (i + 1) = omega arith in

@@ -11,7 +11,7 @@ use Rattle.loss_session.specs.declared.Readings.{Readings}
 use Rattle.loss_session.specs.declared.LossSession.{LossSession}
 use Rattle.loss_session.specs.Session.{readings}
 use Rattle.loss_reading.specs.Reading.{afterReading}
-use Rattle.loss_reading.specs.Told.{numbersOf}
+use Rattle.loss_reading.specs.Told.{lossNumbers}
 use Rattle.stored_line.specs.declared.LossLine.{LossLine}
 use Rattle.stored_line.specs.Line.{lineRecord}
 
@@ -57,6 +57,6 @@ behind records n w = record { records = records ++ w .records; halted = w .halte
 unfoldable pub worked : LossSession → List Readings → Worked
 worked s [] = stopped 0 s
 worked s (r ∷ rs) =
-    cond (eqb (numbersOf s r .refusal) 0)
+    cond (eqb (lossNumbers s r .refusal) 0)
     (behind (lineRecord (lineOf (afterReading s r .session))) 1 (worked (afterReading s r .session) rs))
-    (stopped (numbersOf s r .refusal) s)
+    (stopped (lossNumbers s r .refusal) s)

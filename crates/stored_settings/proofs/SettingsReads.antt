@@ -96,7 +96,8 @@ module _ (octets : List ℕ) where
       let f = found way e in
       keeps (settingsRead (readSettings octets)) (ap valid (f .is-read) ∙ f .is-valid)
 
-  pub again : Octets octets → readSettings octets .refusal ≡ 0 → part 0 recordSize octets ≡ settingsRecord (settingsRead (readSettings octets))
+  pub again : Octets octets → readSettings octets .refusal ≡ 0
+      → part 0 recordSize octets ≡ settingsRecord (settingsRead (readSettings octets))
   again all e =
       let f = found way e in
       let body = part 4 bodySize octets in

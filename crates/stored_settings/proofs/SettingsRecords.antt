@@ -15,7 +15,7 @@ use Rattle.state_settings.proofs.Rules.{valid-is}
 use Rattle.state_settings.specs.Valid.{Valid, valid}
 use Rattle.stored_record.specs.declared.RecordAnswer.the-variants as stored
 use Rattle.stored_record.specs.declared.RecordTold.{RecordTold}
-use Rattle.stored_record.specs.Writing.{writeRecord, told, numbersOf}
+use Rattle.stored_record.specs.Writing.{writeRecord, recordTold, recordNumbers}
 use Rattle.stored_record.proofs.Writing.{writing}
 use Rattle.stored_settings_body.specs.Body.{settingsBody}
 use Rattle.stored_settings.specs.SettingsRecord.{bodySize, recordSize, settingsRecord, settingsRead, readSettings, writeSettings}
@@ -26,14 +26,15 @@ use Rattle.stored_settings.proofs.SettingsWays.{keeps, passes, taken}
 use Rattle.stored_settings.proofs.SettingsReads.{fits, way, seven-to, seven-from, zeros, gives, kept, again, alone, written}
 
 -- from what the code knows: the record of this body, with this test
-pub ends-write : (s : Settings) (buffer : List ℕ) {good : Bool} {body : List ℕ} {o : Wrote RecordAnswer} {t : RecordTold} → good ≡ valid s → body ≡ settingsBody s
-    → (o ≡ writeRecord good 1 body buffer) × (t ≡ numbersOf good body buffer)
-    → (o ≡ writeSettings s buffer) × (t ≡ numbersOf (valid s) (settingsBody s) buffer)
+pub ends-write : (s : Settings) (buffer : List ℕ) {good : Bool} {body : List ℕ} {o : Wrote RecordAnswer} {t : RecordTold} → good ≡ valid s
+    → body ≡ settingsBody s
+    → (o ≡ writeRecord good 1 body buffer) × (t ≡ recordNumbers good body buffer)
+    → (o ≡ writeSettings s buffer) × (t ≡ recordNumbers (valid s) (settingsBody s) buffer)
 unfolding writeSettings
 ends-write s buffer g b e = (e .0 ∙ rw (g, b), e .1 ∙ rw (g, b))
 
 module _ (s : Settings) (buffer : List ℕ) where
-  untouched : (told (writeSettings s buffer .answer) .refusal ≡ 0 → ⊥) → writeSettings s buffer .buffer ≡ buffer
+  untouched : (recordTold (writeSettings s buffer .answer) .refusal ≡ 0 → ⊥) → writeSettings s buffer .buffer ≡ buffer
   unfolding writeSettings
   untouched n = writing .refused (valid s) 1 (settingsBody s) buffer n
 
@@ -43,7 +44,9 @@ module _ (s : Settings) (buffer : List ℕ) where
 
     four-to : writeSettings s buffer .answer ≡ stored.BreaksRule → Valid s → ⊥
     unfolding writeSettings
-    four-to e = ⊎-elim (failed (valid-is .valid-is s)) (λ n. absurd (omega (arith, n, size))) (writing .refuses-4 (valid s) 1 (settingsBody s) buffer .0 e)
+    four-to e =
+        ⊎-elim (failed (valid-is .valid-is s)) (λ n. absurd (omega (arith, n, size)))
+        (writing .refuses-4 (valid s) 1 (settingsBody s) buffer .0 e)
 
     four-from : (Valid s → ⊥) → writeSettings s buffer .answer ≡ stored.BreaksRule
     unfolding writeSettings
@@ -57,9 +60,11 @@ module _ (s : Settings) (buffer : List ℕ) where
 
     three-from : Valid s × (length buffer < recordSize) → writeSettings s buffer .answer ≡ stored.NoRoom
     unfolding writeSettings
-    three-from h = writing .refuses-3 (valid s) 1 (settingsBody s) buffer .1 (passes s (h .0), omega (arith, size), omega (arith, h .1, size))
+    three-from h =
+        writing .refuses-3 (valid s) 1 (settingsBody s) buffer .1 (passes s (h .0), omega (arith, size), omega (arith, h .1, size))
 
-    writes : Valid s → recordSize ≤ length buffer → writeSettings s buffer ≡ wrote (stored.Octets recordSize) (laid 0 (settingsRecord s) buffer)
+    writes : Valid s → recordSize ≤ length buffer → writeSettings s buffer ≡ wrote (stored.Octets recordSize)
+        (laid 0 (settingsRecord s) buffer)
     unfolding writeSettings
     writes v h =
         ap (λ (keep : Bool). writeRecord keep 1 (settingsBody s) buffer) (passes s v)

@@ -71,9 +71,11 @@ module _ (octets : List ℕ) where
 
     -- a body that was copied whole is the record's
     pub copied : {body : List ℕ} → body ≡ laid 0 (part 4 bodySize octets) (replicate bodySize 0) → body ≡ part 4 bodySize octets
-    copied laid-over = laid-over ∙ laid-whole (replicate bodySize 0) (part 4 bodySize octets) bodySize refl (length-part 4 bodySize octets long-enough)
+    copied laid-over =
+        laid-over ∙ laid-whole (replicate bodySize 0) (part 4 bodySize octets) bodySize refl (length-part 4 bodySize octets long-enough)
 
-    module _ {body : List ℕ} {d : Bool} {r : SettingsRead} (l : r ≡ given (settingsIn slots body)) (stands : body ≡ part 4 bodySize octets) (f : d ≡ valid (settingsRead r)) where
+    module _ {body : List ℕ} {d : Bool} {r : SettingsRead} (l : r ≡ given (settingsIn slots body)) (stands : body ≡ part 4 bodySize octets)
+        (f : d ≡ valid (settingsRead r)) where
       lain : r ≡ given s
       lain = l ∙ ap (λ (x : List ℕ). given (settingsIn slots x)) stands
 

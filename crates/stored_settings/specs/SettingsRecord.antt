@@ -16,7 +16,7 @@ use Rattle.state_settings.specs.Valid.{Valid, valid}
 use Rattle.stored_record.specs.declared.RecordAnswer.the-variants as stored
 use Rattle.stored_record.specs.declared.RecordTold.{RecordTold}
 use Rattle.stored_record.specs.Record.{recordOf, isRecord, IsRecord, NoRecord}
-use Rattle.stored_record.specs.Writing.{writeRecord, told, numbersOf}
+use Rattle.stored_record.specs.Writing.{writeRecord, recordTold, recordNumbers}
 use Rattle.stored_settings_body.specs.declared.SettingsRead.{SettingsRead}
 use Rattle.stored_settings_body.specs.Body.{settingsBody, bodyLength, settingsIn, FieldsHold}
 use Rattle.stored_settings_body.specs.Lying.{given}
@@ -63,8 +63,8 @@ unfoldable pub writeSettings : Settings → List ℕ → Wrote RecordAnswer
 writeSettings s buffer = writeRecord (valid s) 1 (settingsBody s) buffer
 
 -- and the numbers that it is told in
-abbrev pub writtenNumbers : Settings → List ℕ → RecordTold
-writtenNumbers s buffer = numbersOf (valid s) (settingsBody s) buffer
+abbrev pub settingsWrittenNumbers : Settings → List ℕ → RecordTold
+settingsWrittenNumbers s buffer = recordNumbers (valid s) (settingsBody s) buffer
 
 -- what is said of every record of settings
 pub record SettingsRecords : Type 0 where
@@ -94,7 +94,7 @@ pub record SettingsRecords : Type 0 where
   pub refuses-4 : (s : Settings) (buffer : List ℕ) → Shaped slots s → (writeSettings s buffer .answer ≡ stored.BreaksRule) ↔ (Valid s → ⊥)
   pub refuses-3 : (s : Settings) (buffer : List ℕ) → Shaped slots s
       → (writeSettings s buffer .answer ≡ stored.NoRoom) ↔ (Valid s × (length buffer < recordSize))
-  pub refused : (s : Settings) (buffer : List ℕ) → (told (writeSettings s buffer .answer) .refusal ≡ 0 → ⊥) → writeSettings s buffer .buffer ≡ buffer
+  pub refused : (s : Settings) (buffer : List ℕ) → (recordTold (writeSettings s buffer .answer) .refusal ≡ 0 → ⊥) → writeSettings s buffer .buffer ≡ buffer
   -- any other settings are written, and the octets behind their record stay
   pub writes : (s : Settings) (buffer : List ℕ) → Valid s → Shaped slots s → recordSize ≤ length buffer
       → writeSettings s buffer ≡ wrote (stored.Octets recordSize) (laid 0 (settingsRecord s) buffer)

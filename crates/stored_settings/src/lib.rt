@@ -4,8 +4,8 @@
 ghost use mathlib.Core.Path.{_≡_};
 ghost use Rattle.base_laws.specs.Ended.{wrote};
 ghost use Rattle.state_settings.specs.Settings.{slots, lentSettings, Shaped};
-ghost use Rattle.stored_record.specs.Writing.{told};
-ghost use Rattle.stored_settings.specs.SettingsRecord.{refusedRead, readSettings, writeSettings, writtenNumbers};
+ghost use Rattle.stored_record.specs.Writing.{recordTold};
+ghost use Rattle.stored_settings.specs.SettingsRecord.{refusedRead, readSettings, writeSettings, settingsWrittenNumbers};
 use base_octets::copy_octets;
 use state_settings::NAMES;
 use state_settings::Names;
@@ -61,7 +61,7 @@ pub fn read_settings(from: &[u8]) -> SettingsRead
 // Writes the record of settings into the front of the buffer: refusal 4 where they break a rule, then 3 where there is no room.
 pub fn write_settings(into: &mut [u8], set: &Set, names: &Names, ids: &Slots) -> RecordAnswer
     ensures { λ r. ⌜ (wrote r (now (into .exit)) ≡ writeSettings (lentSettings set names ids) (now (into .entry)))
-        × (told r ≡ writtenNumbers (lentSettings set names ids) (now (into .entry))) ⌝ }
+        × (recordTold r ≡ settingsWrittenNumbers (lentSettings set names ids) (now (into .entry))) ⌝ }
     ensures { λ _. ⌜ Shaped slots (lentSettings set names ids) ⌝ }
 {
     // a view of an array tells its length, and costs nothing

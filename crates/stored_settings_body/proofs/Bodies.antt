@@ -42,17 +42,20 @@ module _ (n : ℕ) (s : Settings) (w : Shaped n s) where
   level-here : s .level < 256 → fieldAt 0 1 (settingsBody s) ≡ s .level
   unfolding fieldsBefore settingsBody
   level-here h =
-      number-among littleEndian 1 (s .level) [] (mep ++ s .own ++ period ++ s .meg ++ s .losspeer ++ count ++ ids) 0 (simp append-assoc) refl h
+      number-among littleEndian 1 (s .level) [] (mep ++ s .own ++ period ++ s .meg ++ s .losspeer ++ count ++ ids) 0
+      (simp append-assoc) refl h
 
   mep-here : s .mep < 2 ^ 16 → fieldAt 1 2 (settingsBody s) ≡ s .mep
   unfolding fieldsBefore settingsBody
   mep-here h =
-      number-among littleEndian 2 (s .mep) level (s .own ++ period ++ s .meg ++ s .losspeer ++ count ++ ids) 1 (simp append-assoc) (simp length-octets) h
+      number-among littleEndian 2 (s .mep) level (s .own ++ period ++ s .meg ++ s .losspeer ++ count ++ ids) 1 (simp append-assoc)
+      (simp length-octets) h
 
   own-here : part 3 6 (settingsBody s) ≡ s .own
   unfolding fieldsBefore settingsBody
   own-here =
-      part-among (level ++ mep) (s .own) (period ++ s .meg ++ s .losspeer ++ count ++ ids) 3 6 (simp append-assoc) (simp (length-append, length-octets)) (w .own)
+      part-among (level ++ mep) (s .own) (period ++ s .meg ++ s .losspeer ++ count ++ ids) 3 6 (simp append-assoc)
+      (simp (length-append, length-octets)) (w .own)
 
   period-here : s .period < 256 → fieldAt 9 1 (settingsBody s) ≡ s .period
   unfolding fieldsBefore settingsBody
@@ -84,7 +87,8 @@ module _ (n : ℕ) (s : Settings) (w : Shaped n s) where
 
 pub back : (n : ℕ) (s : Settings) → Shaped n s → FieldsHold s → settingsIn n (settingsBody s) ≡ s
 back n s w k =
-    let same : idsIn n (idsOctets (s .ids)) ≡ s .ids = ap (λ (m : ℕ). idsIn m (idsOctets (s .ids))) (sym (w .ids)) ∙ ids-back (s .ids) (k .ids) in
+    let same : idsIn n (idsOctets (s .ids)) ≡ s .ids = ap (λ (m : ℕ). idsIn m (idsOctets (s .ids))) (sym (w .ids))
+    ∙ ids-back (s .ids) (k .ids) in
     rw (
       level-here n s w (k .level),
       mep-here n s w (k .mep),

@@ -14,11 +14,13 @@ use Rattle.stored_settings_body.specs.Lying.{setOf, namesOf, Lying}
 pub lying-back : (n : ℕ) (s : Settings) → Shaped n s → settingsOf (setOf s) (namesOf s) (s .ids) ≡ s
 lying-back n s w =
     let own : ownNamed (namesOf s) ≡ s .own =
-    ap ownNamed (append-assoc (s .own) (s .losspeer) (s .meg)) ∙ part-here [] (s .own) (s .losspeer ++ s .meg) ownFrom addressOctets refl (w .own) in
+    ap ownNamed (append-assoc (s .own) (s .losspeer) (s .meg))
+    ∙ part-here [] (s .own) (s .losspeer ++ s .meg) ownFrom addressOctets refl (w .own) in
     let losspeer : losspeerNamed (namesOf s) ≡ s .losspeer =
     part-here (s .own) (s .losspeer) (s .meg) losspeerFrom addressOctets (w .own) (w .losspeer) in
     let meg : megNamed (namesOf s) ≡ s .meg =
-    ap megNamed (sym (append-nil (namesOf s))) ∙ part-here (s .own ++ s .losspeer) (s .meg) [] megFrom megOctets (rw length-append (omega (arith, w .own, w .losspeer))) (w .meg) in
+    ap megNamed (sym (append-nil (namesOf s))) ∙ part-here (s .own ++ s .losspeer) (s .meg) [] megFrom megOctets
+    (rw length-append (omega (arith, w .own, w .losspeer))) (w .meg) in
     rw (own, losspeer, meg)
 
 -- the words are those that the settings show, as many as there are
@@ -29,7 +31,8 @@ lying-again : (set names ids : List ℕ) → length set ≡ setWords → length 
     → (setOf (settingsOf set names ids) ≡ set) × (namesOf (settingsOf set names ids) ≡ names)
 lying-again set names ids hs hn = (
   words-back set names ids hs,
-  ap (λ (l : List ℕ). l ++ megNamed names) (sym (part-append ownFrom addressOctets addressOctets names)) ∙ sym (part-append ownFrom megFrom megOctets names) ∙ part-whole _ names hn,
+  ap (λ (l : List ℕ). l ++ megNamed names) (sym (part-append ownFrom addressOctets addressOctets names))
+      ∙ sym (part-append ownFrom megFrom megOctets names) ∙ part-whole _ names hn,
 )
 
 pub lying : Lying

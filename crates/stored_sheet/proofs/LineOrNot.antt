@@ -13,7 +13,7 @@ use Rattle.stored_record.specs.Record.{cut-short}
 use Rattle.stored_line.specs.declared.LossLine.{LossLine}
 use Rattle.stored_line.specs.declared.LineAnswer.{LineAnswer}
 use Rattle.stored_line.specs.declared.LineAnswer.the-variants.{Refused, Line}
-use Rattle.stored_line.specs.Calls.{readLine}
+use Rattle.stored_line.specs.LineCalls.{readLine}
 use Rattle.stored_line.proofs.LineRecords.{loss-records}
 use Rattle.stored_sheet.specs.Sheet.{isLine}
 

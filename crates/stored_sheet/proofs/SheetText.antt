@@ -10,7 +10,7 @@ use Rattle.base_octets.specs.Octets.{Octets}
 use Rattle.stored_line.specs.declared.LossLine.{LossLine}
 use Rattle.stored_line.specs.declared.LineAnswer.the-variants.{Refused, Line}
 use Rattle.stored_line.specs.Line.{lineRecord}
-use Rattle.stored_line.specs.Calls.{readLine}
+use Rattle.stored_line.specs.LineCalls.{readLine}
 use Rattle.stored_line.proofs.Laws.{line-long}
 use Rattle.stored_line.proofs.LineRecords.{loss-records}
 use Rattle.stored_sheet.specs.Sheet.{refusedText, lineText, Prints, nothing-left, good-record, bad-record, answerText, textOf}
@@ -64,6 +64,8 @@ prints-within (suc n) (x ∷ xs) h all =
     by rest (refused e) = rw (all-refused (x ∷ xs) (omega arith) e) (bad-record x xs (loss-records .refuses-7 (x ∷ xs) .0 e))
     by rest (a-line line e) =
         let text : textOf (x ∷ xs) ≡ lineText line ++ textOf (drop 24 (x ∷ xs)) =
-        text-good (x ∷ xs) (omega arith) (is-line (x ∷ xs) line e) ∙ ap (λ (t : List ℕ). t ++ textOf (drop 24 (x ∷ xs))) (line-text (x ∷ xs) line e) in
-        let front : lineRecord line ++ drop 24 (x ∷ xs) ≡ x ∷ xs = first-record (x ∷ xs) (lineRecord line) (loss-records .again (x ∷ xs) line all e) in
+        text-good (x ∷ xs) (omega arith) (is-line (x ∷ xs) line e)
+        ∙ ap (λ (t : List ℕ). t ++ textOf (drop 24 (x ∷ xs))) (line-text (x ∷ xs) line e) in
+        let front : lineRecord line ++ drop 24 (x ∷ xs) ≡ x ∷ xs =
+        first-record (x ∷ xs) (lineRecord line) (loss-records .again (x ∷ xs) line all e) in
         rw (front, sym text) at (good-record line (drop 24 (x ∷ xs)) (textOf (drop 24 (x ∷ xs))) (loss-records .kept (x ∷ xs) line e) rest)

@@ -15,7 +15,7 @@ use Rattle.stored_record.specs.Record.{headOf, recordOf, wrong-kind}
 use Rattle.stored_line.specs.declared.LossLine.{LossLine}
 use Rattle.stored_line.specs.declared.LineAnswer.{LineAnswer}
 use Rattle.stored_line.specs.Line.{KeepsRules, lineBody, lineRecord}
-use Rattle.stored_line.specs.Calls.{readLine}
+use Rattle.stored_line.specs.LineCalls.{readLine}
 use Rattle.stored_line.proofs.LineRecords.{loss-records}
 use Rattle.stored_sheet.specs.Sheet.{headerText, lineText, nothing-left, good-record, answerText, isLine, textOf, allGood, sheetOf}
 use Rattle.stored_sheet.specs.Sheet.{chunksText, joined, Whole, workedInput, workedOutput, Sheets}
@@ -25,7 +25,8 @@ use Rattle.stored_sheet.proofs.SheetText.{all-refused, only, prints-wit
 
 -- ── chunks ──
 
-pub two : (k : ℕ) (first rest : List ℕ) → length first ≡ k * 24 → textOf (first ++ rest) ≡ textOf first ++ cond (allGood first) (textOf rest) []
+pub two : (k : ℕ) (first rest : List ℕ) → length first ≡ k * 24
+    → textOf (first ++ rest) ≡ textOf first ++ cond (allGood first) (textOf rest) []
 two zero [] rest h = rw (text-none, good-none)
 two zero (x ∷ xs) rest h = absurd (omega (arith, h))
 two (suc k) first rest h = by (two k (drop 24 first) rest (omega (arith, h, length-drop 24 first))) (known (isLine (readLine first)))
@@ -82,7 +83,8 @@ worked-input : lineRecord one ++ (lineRecord three ++ []) ≡ workedInput
 unfolding one three headOf recordOf lineBody inOctets octetsLowestFirst
 worked-input = refl
 
-worked-text : lineText one ++ (lineText three ++ []) ≡ 49 ∷ 32 ∷ 45 ∷ 49 ∷ 32 ∷ 48 ∷ 10 ∷ 51 ∷ 32 ∷ 53 ∷ 32 ∷ 52 ∷ 50 ∷ 57 ∷ 52 ∷ 57 ∷ 54 ∷ 55 ∷ 50 ∷ 57 ∷ 53 ∷ 10 ∷ []
+worked-text : lineText one ++ (lineText three ++ [])
+    ≡ 49 ∷ 32 ∷ 45 ∷ 49 ∷ 32 ∷ 48 ∷ 10 ∷ 51 ∷ 32 ∷ 53 ∷ 32 ∷ 52 ∷ 50 ∷ 57 ∷ 52 ∷ 57 ∷ 54 ∷ 55 ∷ 50 ∷ 57 ∷ 53 ∷ 10 ∷ []
 unfolding one three lineText decimal digitsOf leading
 worked-text = refl
 
@@ -92,7 +94,8 @@ worked =
     let kept-one : KeepsRules one = record { few = omega arith; near = omega arith; far = omega arith } in
     let kept-three : KeepsRules three = record { few = omega arith; near = omega arith; far = omega arith } in
     let p = good-record one (lineRecord three ++ []) (lineText three ++ []) kept-one (good-record three [] [] kept-three nothing-left) in
-    ap (λ (t : List ℕ). headerText ++ t) (ap textOf (sym worked-input) ∙ sym (only (lineRecord one ++ (lineRecord three ++ [])) (lineText one ++ (lineText three ++ [])) p) ∙ worked-text)
+    ap (λ (t : List ℕ). headerText ++ t) (ap textOf (sym worked-input)
+    ∙ sym (only (lineRecord one ++ (lineRecord three ++ [])) (lineText one ++ (lineText three ++ [])) p) ∙ worked-text)
 
 pub sheets : Sheets
 sheets = record {

@@ -15,7 +15,7 @@ use Rattle.base_laws.proofs.Stored.{fits-size}
 use Rattle.base_number_text.specs.Decimal.{decimal}
 use Rattle.base_number_text.proofs.Decimal.{decimals}
 use Rattle.stored_line.specs.declared.LossLine.{LossLine}
-use Rattle.stored_line.specs.Calls.{readLine}
+use Rattle.stored_line.specs.LineCalls.{readLine}
 use Rattle.stored_line.proofs.Laws.{near-fits, far-fits}
 use Rattle.stored_line.proofs.LineRecords.{loss-records}
 use Rattle.stored_sheet.specs.Sheet.{lineText, answerText, isLine, textWithin, goodWithin, textOf, allGood, longestLine}
@@ -86,7 +86,9 @@ module _ (octets : List ℕ) (some : 0 < length octets) where
 
   module _ (b : isLine (readLine octets) ≡ false) where
     pub text-bad : textOf octets ≡ answerText (readLine octets)
-    text-bad = text-next octets some ∙ ap (λ (t : Bool). answerText (readLine octets) ++ cond t (textOf (drop 24 octets)) []) b ∙ append-nil (answerText (readLine octets))
+    text-bad =
+        text-next octets some ∙ ap (λ (t : Bool). answerText (readLine octets) ++ cond t (textOf (drop 24 octets)) []) b
+        ∙ append-nil (answerText (readLine octets))
 
     pub good-bad : allGood octets ≡ false
     good-bad = good-next octets some ∙ ap (λ (t : Bool). t && allGood (drop 24 octets)) b
@@ -96,13 +98,22 @@ module _ (octets : List ℕ) (some : 0 < length octets) where
 number-long : (z : ℤ) (mark : ℕ) → SFits w64 z → length (decimal z ++ (mark ∷ [])) ≤ 21
 number-long z mark fits = omega (arith, length-append (decimal z) (mark ∷ []), decimals .longest z fits)
 
-pub line-long : (line : LossLine) → SFits w64 (pos (line .intervals)) → SFits w64 (line .near) → SFits w64 (line .far) → length (lineText line) ≤ longestLine
+pub line-long : (line : LossLine) → SFits w64 (pos (line .intervals)) → SFits w64 (line .near) → SFits w64 (line .far)
+    → length (lineText line) ≤ longestLine
 unfolding lineText
 line-long line i n f =
     let a = decimal (pos (line .intervals)) ++ (32 ∷ []) in
     let b = decimal (line .near) ++ (32 ∷ []) in
     let c = decimal (line .far) ++ (10 ∷ []) in
-    omega (arith, length-append (a ++ b) c, length-append a b, number-long (pos (line .intervals)) 32 i, number-long (line .near) 32 n, number-long (line .far) 10 f)
+    omega (
+      arith,
+      length-append (a ++ b) c,
+      length-append a b,
+      number-long (pos (line .intervals)) 32 i,
+      number-long
+          (line .near) 32 n,
+      number-long (line .far) 10 f,
+    )
 
 pub answer-long : (octets : List ℕ) → length (answerText (readLine octets)) ≤ longestLine
 unfolding answerText
@@ -121,7 +132,8 @@ text-long zero (x ∷ xs) h = absurd (omega (arith, h))
 text-long (suc n) [] h = rw text-none (omega arith)
 text-long (suc n) (x ∷ xs) h = by (text-long n (drop 24 (x ∷ xs)) (shorter x xs n h)) (known (isLine (readLine (x ∷ xs))))
   where
-    by : length (textOf (drop 24 (x ∷ xs))) ≤ 3 * length (drop 24 (x ∷ xs)) + longestLine → (isLine (readLine (x ∷ xs)) ≡ true) ⊎ (isLine (readLine (x ∷ xs)) ≡ false)
+    by : length (textOf (drop 24 (x ∷ xs))) ≤ 3 * length (drop 24 (x ∷ xs)) + longestLine
+        → (isLine (readLine (x ∷ xs)) ≡ true) ⊎ (isLine (readLine (x ∷ xs)) ≡ false)
         → length (textOf (x ∷ xs)) ≤ 3 * length (x ∷ xs) + longestLine
     by rest (inl b) =
         let long = whole-record (x ∷ xs) b in

@@ -14,7 +14,7 @@ use Rattle.stored_line.specs.declared.LossLine.{LossLine}
 use Rattle.stored_line.specs.declared.LineAnswer.{LineAnswer}
 use Rattle.stored_line.specs.declared.LineAnswer.the-variants.{Refused, Line}
 use Rattle.stored_line.specs.Line.{KeepsRules, lineRecord, lineIn}
-use Rattle.stored_line.specs.Calls.{readLine}
+use Rattle.stored_line.specs.LineCalls.{readLine}
 
 -- ── its texts, in ASCII ──
 

@@ -37,7 +37,8 @@ module _ (octets buffer : List ℕ) where
     unfolding writeLines choose
     ends-all g e f = rw (le-ltb (length buffer) (room octets) h, g, e, f)
 
-    pub ends-stopped : {n : ℕ} {after : List ℕ} → allGood octets ≡ false → n ≡ length text → after ≡ laid 0 text buffer → wrote (Stopped n) after ≡ o
+    pub ends-stopped : {n : ℕ} {after : List ℕ} → allGood octets ≡ false → n ≡ length text → after ≡ laid 0 text buffer
+        → wrote (Stopped n) after ≡ o
     unfolding writeLines choose
     ends-stopped g e f = rw (le-ltb (length buffer) (room octets) h, g, e, f)
 
@@ -61,7 +62,8 @@ module _ (octets buffer : List ℕ) where
 
   only-short : o .answer ≡ NoRoom → length buffer < room octets
   unfolding numbered
-  only-short e = ⊎-elim (ltb-true _ _) (λ f. absurd (full (ltb-false _ _ f) (known (allGood octets)))) (known (ltb (length buffer) (room octets)))
+  only-short e =
+      ⊎-elim (ltb-true _ _) (λ f. absurd (full (ltb-false _ _ f) (known (allGood octets)))) (known (ltb (length buffer) (room octets)))
     where
       full : room octets ≤ length buffer → (allGood octets ≡ true) ⊎ (allGood octets ≡ false) → ⊥
       full h (inl g) = eqb-false 0 1 refl (ap numbered (sym e ∙ all h g))

@@ -17,7 +17,7 @@ use Rattle.base_number_text.proofs.Decimal.{decimals}
 use Rattle.base_number_text.proofs.Put.{put-laid, put-place}
 use Rattle.stored_line.specs.declared.LossLine.{LossLine}
 use Rattle.stored_line.specs.declared.LineAnswer.the-variants.{Refused, Line}
-use Rattle.stored_line.specs.Calls.{readLine}
+use Rattle.stored_line.specs.LineCalls.{readLine}
 use Rattle.stored_sheet.specs.Sheet.{refusedText, lineText, answerText, isLine, longestLine}
 use Rattle.stored_sheet_lines.specs.Chunk.{room}
 
@@ -27,7 +27,8 @@ abbrev numberText : ℤ → ℕ → List ℕ
 numberText z mark = decimal z ++ (mark ∷ [])
 
 -- a number is put, and one octet stored behind it
-module _ (at mark : ℕ) (value : ℤ) (before : List ℕ) (room : at + 21 ≤ length before) (fits : SFits w64 value) {given : ℤ} (same : given ≡ value) {after : List ℕ} {place : ℕ}
+module _ (at mark : ℕ) (value : ℤ) (before : List ℕ) (room : at + 21 ≤ length before) (fits : SFits w64 value) {given : ℤ}
+    (same : given ≡ value) {after : List ℕ} {place : ℕ}
     (e : after ≡ putAt at (decimal given) before) (f : place ≡ behind at (decimal given) before) where
   short : length (decimal value) ≤ 20
   short = decimals .longest value fits
@@ -53,7 +54,8 @@ module _ (at mark : ℕ) (value : ℤ) (before : List ℕ) (room : at + 21 ≤ l
   number-most = omega (arith, short, number-place)
 
 -- three numbers, one behind the other, are the line
-pub line-laid : (at : ℕ) (line : LossLine) (l : List ℕ) {x y z : List ℕ} {i n f : ℤ} {p q r : ℕ} → at + longestLine ≤ length l → i ≡ pos (line .intervals) → n ≡ line .near → f ≡ line .far
+pub line-laid : (at : ℕ) (line : LossLine) (l : List ℕ) {x y z : List ℕ} {i n f : ℤ} {p q r : ℕ} → at + longestLine ≤ length l
+    → i ≡ pos (line .intervals) → n ≡ line .near → f ≡ line .far
     → (x ≡ laid at (numberText i 32) l) × (p ≡ at + length (numberText i 32)) × (p ≤ at + 21)
     → (y ≡ laid p (numberText n 32) x) × (q ≡ p + length (numberText n 32)) × (q ≤ p + 21)
     → (z ≡ laid q (numberText f 10) y) × (r ≡ q + length (numberText f 10)) × (r ≤ q + 21)
@@ -64,11 +66,14 @@ line-laid at line l {x} {y} {z} {i} {n} {f} {p} {q} {r} h ei en ef a b c =
     let n-text = numberText n 32 in
     let f-text = numberText f 10 in
     let one = first at (length i-text) i-text l (a .0) refl in
-    let two = more (length n-text) n-text one (b .0 ∙ ap (λ (k : ℕ). laid k n-text x) (a .1)) refl (omega (arith, h, a .1, a .2, b .1, b .2)) in
+    let two = more (length n-text) n-text one (b .0 ∙ ap (λ (k : ℕ). laid k n-text x) (a .1)) refl
+    (omega (arith, h, a .1, a .2, b .1, b .2)) in
     let q-is : q ≡ at + (length i-text + length n-text) = omega (arith, a .1, b .1) in
-    let three = more (length f-text) f-text two (c .0 ∙ ap (λ (k : ℕ). laid k f-text y) q-is) refl (omega (arith, h, a .1, a .2, b .1, b .2, c .1, c .2)) in
+    let three = more (length f-text) f-text two (c .0 ∙ ap (λ (k : ℕ). laid k f-text y) q-is) refl
+    (omega (arith, h, a .1, a .2, b .1, b .2, c .1, c .2)) in
     let size : r ≡ at + length (i-text ++ n-text ++ f-text) = omega (arith, c .1, q-is, three .long) in
-    let done : (z ≡ laid at (i-text ++ n-text ++ f-text) l) × (r ≡ at + length (i-text ++ n-text ++ f-text)) × (r ≤ at + longestLine) = (three .is, size, omega (arith, a .2, b .2, c .2)) in
+    let done : (z ≡ laid at (i-text ++ n-text ++ f-text) l) × (r ≡ at + length (i-text ++ n-text ++ f-text))
+    × (r ≤ at + longestLine) = (three .is, size, omega (arith, a .2, b .2, c .2)) in
     rw (ei, en, ef) at done
 
 -- ── the text of one record ──
@@ -76,7 +81,8 @@ line-laid at line l {x} {y} {z} {i} {n} {f} {p} {q} {r} h ei en ef a b c =
 -- what is written of it: its text, as far as `place`, and whether it was good
 abbrev pub Next : ℕ → List ℕ → List ℕ → List ℕ → ℕ → Bool → Type 0
 Next at from l after place b =
-    (after ≡ laid at (answerText (readLine from)) l) × (place ≡ at + length (answerText (readLine from))) × (b ≡ isLine (readLine from)) × (place ≤ at + longestLine)
+    (after ≡ laid at (answerText (readLine from)) l) × (place ≡ at + length (answerText (readLine from))) × (b ≡ isLine (readLine from))
+    × (place ≤ at + longestLine)
 
 module _ (at : ℕ) (from l : List ℕ) where
   pub next-refused : {after : List ℕ} → readLine from ≡ Refused → after ≡ laid at refusedText l → Next at from l after (at + 10) false
@@ -84,6 +90,7 @@ module _ (at : ℕ) (from l : List ℕ) where
   next-refused e f = rw e (f, refl, refl, omega arith)
 
   pub next-line : (line : LossLine) {after : List ℕ} {place : ℕ} → readLine from ≡ Line line
-      → (after ≡ laid at (lineText line) l) × (place ≡ at + length (lineText line)) × (place ≤ at + longestLine) → Next at from l after place true
+      → (after ≡ laid at (lineText line) l) × (place ≡ at + length (lineText line)) × (place ≤ at + longestLine)
+      → Next at from l after place true
   unfolding answerText isLine
   next-line line e w = rw e (w .0, w .1, refl, w .2)

@@ -10,7 +10,7 @@ use Rattle.base_laws.specs.Ended.{wrote}
 use Rattle.base_laws.specs.Lists.{laid}
 use Rattle.base_laws.proofs.Overlaid.{laid-none, length-laid}
 use Rattle.base_laws.proofs.Pieces.{Has, first, more}
-use Rattle.stored_line.specs.Calls.{readLine}
+use Rattle.stored_line.specs.LineCalls.{readLine}
 use Rattle.stored_sheet.specs.Sheet.{answerText, isLine, textOf, allGood, longestLine}
 use Rattle.stored_sheet_lines.specs.Chunk.{room, writeLines}
 use Rattle.stored_sheet_lines.specs.declared.Lines.the-variants.{All, Stopped}
@@ -45,11 +45,14 @@ module _ {from before into : List ℕ} {i at : ℕ} (s : SoFar from before into 
   pub at-end : length from ≤ i → wrote (All at) into ≡ writeLines from before
   at-end k =
       let none : drop i from ≡ [] = drop-of-length-le from k in
-      let all : textOf from ≡ s .text = s .rest ∙ ap (λ (l : List ℕ). s .text ++ textOf l) none ∙ ap (λ (l : List ℕ). s .text ++ l) text-none ∙ append-nil (s .text) in
-      ends-all from before h (s .good ∙ ap allGood none ∙ good-none) (sym (s .long) ∙ ap length (sym all)) (s .is ∙ ap (λ (l : List ℕ). laid 0 l before) (sym all))
+      let all : textOf from ≡ s .text = s .rest ∙ ap (λ (l : List ℕ). s .text ++ textOf l) none
+      ∙ ap (λ (l : List ℕ). s .text ++ l) text-none ∙ append-nil (s .text) in
+      ends-all from before h (s .good ∙ ap allGood none ∙ good-none) (sym (s .long) ∙ ap length (sym all))
+      (s .is ∙ ap (λ (l : List ℕ). laid 0 l before) (sym all))
 
   -- the text of the record at i is put behind
-  module _ (still : i < length from) {after : List ℕ} {place : ℕ} {b : Bool} (e : after ≡ laid at (answerText (readLine (drop i from))) into)
+  module _ (still : i < length from) {after : List ℕ} {place : ℕ} {b : Bool}
+      (e : after ≡ laid at (answerText (readLine (drop i from))) into)
       (f : place ≡ at + length (answerText (readLine (drop i from)))) (g : b ≡ isLine (readLine (drop i from))) where
     abbrev left : List ℕ
     left = drop i from
@@ -78,7 +81,8 @@ module _ {from before into : List ℕ} {i at : ℕ} (s : SoFar from before into 
     turn-stops k =
         let bad = sym g ∙ k in
         let all : textOf from ≡ now-text = s .rest ∙ ap (λ (l : List ℕ). s .text ++ l) (text-bad left some bad) in
-        ends-stopped from before h (s .good ∙ good-bad left some bad) (reaches ∙ ap length (sym all)) (put .is ∙ ap (λ (l : List ℕ). laid 0 l before) (sym all))
+        ends-stopped from before h (s .good ∙ good-bad left some bad) (reaches ∙ ap length (sym all))
+        (put .is ∙ ap (λ (l : List ℕ). laid 0 l before) (sym all))
 
     pub turn-whole : b ≡ true → i + 24 ≤ length from
     turn-whole k = omega (arith, whole-record left (sym g ∙ k), length-drop i from)
@@ -91,7 +95,8 @@ module _ {from before into : List ℕ} {i at : ℕ} (s : SoFar from before into 
           text = now-text;
           long = sym reaches;
           is = put .is;
-          rest = s .rest ∙ ap (λ (l : List ℕ). s .text ++ l) (text-good left some good) ∙ sym (append-assoc (s .text) (answerText (readLine left)) (textOf (drop 24 left)))
+          rest = s .rest ∙ ap (λ (l : List ℕ). s .text ++ l) (text-good left some good)
+              ∙ sym (append-assoc (s .text) (answerText (readLine left)) (textOf (drop 24 left)))
               ∙ ap (λ (l : List ℕ). now-text ++ textOf l) next;
           good = s .good ∙ good-good left some good ∙ ap allGood next;
           within = turn-whole k;

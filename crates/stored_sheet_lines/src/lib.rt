@@ -6,7 +6,7 @@ ghost use lib.ListN.{length};
 ghost use Rattle.base_laws.specs.Ended.{wrote};
 ghost use Rattle.base_laws.specs.Lists.{laid};
 ghost use Rattle.base_number_text.specs.Decimal.{decimal};
-ghost use Rattle.stored_line.specs.Calls.{readLine};
+ghost use Rattle.stored_line.specs.LineCalls.{readLine};
 ghost use Rattle.stored_sheet.specs.Sheet.{lineText, refusedText, answerText, isLine, longestLine};
 ghost use Rattle.stored_sheet_lines.specs.Chunk.{writeLines};
 use base_number_write::write_decimal;

@@ -1,5 +1,5 @@
 -- `base_compare::same_octets` meets its contract. The invariant: what was found so far, and the pairs from i on, decide as all do.
-use Prim.Native.Nat.{_≤_, _-_}
+use Prim.Native.Nat.{_-_}
 use mathlib.Core.Path.{sym}
 use native.Mathlib.Omega.{arith}
 use denote.Ref.{now}

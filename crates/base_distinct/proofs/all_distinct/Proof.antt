@@ -1,11 +1,9 @@
 -- `base_distinct::all_distinct` meets its contract. The invariant: the words from i on decide.
-use Prim.Native.Nat.{ℕ, _+_, _-_, _≤_}
+use Prim.Native.Nat.{_+_, _-_, _≤_}
 use mathlib.Core.Path.{_≡_, refl, sym, ap, _∙_}
 use native.Mathlib.Omega.{arith}
 use denote.Ref.{now}
 use lib.ListN.{length, getD, drop}
-use mathlib.Core.Bool.{Bool, _&&_, not}
-use mathlib.Core.List.{List}
 use borrow.Author.Tests.{not-true, not-false}
 use Rattle.base_laws.specs.Lists.{absent, distinct}
 use Rattle.base_laws.proofs.Loops.{part-rest}

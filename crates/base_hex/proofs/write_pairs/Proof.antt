@@ -1,4 +1,5 @@
--- `base_hex::write_pairs` meets its contract. The invariant: the digits of the first i octets are laid. The measure is how many octets are left.
+-- `base_hex::write_pairs` meets its contract. The invariant: the digits of the first i octets are laid. The measure is how many octets are
+-- left.
 use Prim.Native.Nat.{ℕ, _+_, _*_, _-_, _≤_}
 use mathlib.Core.Path.{_≡_, refl, ap, _∙_}
 use mathlib.Core.List.{List}

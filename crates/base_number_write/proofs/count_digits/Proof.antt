@@ -1,4 +1,5 @@
--- `base_number_write::count_digits` meets its contract. The loop's invariant: the bound is 10 ^ count, and the size has no fewer digits. The measure is
+-- `base_number_write::count_digits` meets its contract. The loop's invariant: the bound is 10 ^ count, and the size has no fewer digits.
+-- The measure is
 -- how far the count is from 19, which it reaches at most.
 use Prim.Native.Nat.{_-_}
 use native.Mathlib.Omega.{arith}

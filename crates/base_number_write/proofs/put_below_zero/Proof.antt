@@ -1,4 +1,5 @@
--- `base_number_write::put_below_zero` meets its contract: the place behind the digits has moved exactly where they fit, and the sign with them.
+-- `base_number_write::put_below_zero` meets its contract: the place behind the digits has moved exactly where they fit, and the sign with
+-- them.
 use native.Mathlib.Omega.{arith}
 use mathlib.Core.Path.{sym, ap, _∙_}
 use mathlib.Core.List.{List, _∷_}

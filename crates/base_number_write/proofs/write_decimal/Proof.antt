@@ -1,4 +1,5 @@
--- `base_number_write::write_decimal` meets its contract, by the sign: below 0 the size is one more than -1 less the number, which no cast loses.
+-- `base_number_write::write_decimal` meets its contract, by the sign: below 0 the size is one more than -1 less the number, which no cast
+-- loses.
 use native.Mathlib.Omega.{arith}
 use mir.Facts.{fits-natAbs}
 use Rattle.base_laws.proofs.Places.{at}

@@ -1,4 +1,5 @@
--- `base_number_write::write_digits` meets its contract. The loop's invariant: the digits from `left` on are laid, and `rest` is the size without them.
+-- `base_number_write::write_digits` meets its contract. The loop's invariant: the digits from `left` on are laid, and `rest` is the size
+-- without them.
 -- The measure is `left`.
 use native.Mathlib.Omega.{arith}
 use denote.Ref.{now}

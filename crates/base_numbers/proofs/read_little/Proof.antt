@@ -2,7 +2,7 @@
 -- measure is `left`.
 use native.Mathlib.Omega.{arith}
 use mathlib.Core.Path.{_≡_, sym}
-use Prim.Native.Nat.{ℕ, _+_, _*_, _^_, _-_, _≤_, _<_}
+use Prim.Native.Nat.{_+_, _^_, _-_, _≤_, _<_}
 use denote.Ref.{now}
 use lib.ListN.{getD}
 use Rattle.base_laws.proofs.Places.{at}

@@ -1,5 +1,5 @@
 -- `base_words::all_within` meets its contract. The invariant: what was found so far, and the words from i on, decide as all do.
-use Prim.Native.Nat.{_≤_, _-_}
+use Prim.Native.Nat.{_-_}
 use native.Mathlib.Omega.{arith}
 use lib.ListN.{length}
 use Rattle.base_laws.proofs.Loops.{Joined, joined-start, joined-next, joined-all}

@@ -1,9 +1,9 @@
 -- `base_words::place_of` meets its contract. The invariant: the place is i and the place from there on.
 use Prim.Native.Nat.{ℕ, _+_, _-_, _≤_}
-use mathlib.Core.Path.{_≡_, refl, sym, ap, _∙_}
+use mathlib.Core.Path.{_≡_, sym, ap, _∙_}
 use native.Mathlib.Omega.{arith}
 use denote.Ref.{now}
-use lib.ListN.{length, getD, drop}
+use lib.ListN.{length, drop}
 use native.Mathlib.Nat.{add-zero, add-assoc}
 use Rattle.base_laws.specs.Lists.{placeOf}
 use Rattle.base_laws.proofs.Places.{at}

@@ -9,9 +9,9 @@ use borrow.Author.Tests.{not-true, not-false}
 use Rattle.state_settings.specs.Settings.{slots, settingsOf, Shaped, nameOctets}
 use Rattle.state_settings.specs.Valid.{valid}
 use Rattle.state_settings.proofs.Shape.{handed-shaped}
-use Rattle.call_setting.specs.Told.{told}
+use Rattle.call_setting.specs.Told.{settingTold}
 use Rattle.call_setting.specs.declared.Started.{Started}
-use Rattle.call_setting.specs.Start.{startedWith, noState, settingOf, numbersOf}
+use Rattle.call_setting.specs.Start.{startedWith, noState, settingOf, settingNumbers}
 use Rattle.call_setting.proofs.Starts.{agree, answers}
 use Rattle.base_laws.proofs.Places.{at}
 use borrow.Author.Needs.{needs}
@@ -22,11 +22,11 @@ use Rattle.call_setting.proofs.new_setting.Tie as tie
 module _ (words names ids : List ℕ) (r : Started) where
   told-of : length names ≡ nameOctets → length ids ≡ slots → r ≡ settingOf words names ids
       → (r ≡ settingOf words names ids)
-      × ((told (r .answer) ≡ numbersOf (settingsOf words names ids)) × Shaped slots (settingsOf words names ids))
+      × ((settingTold (r .answer) ≡ settingNumbers (settingsOf words names ids)) × Shaped slots (settingsOf words names ids))
   told-of h k e = (
     e,
     (
-      ap (λ (x : Started). told (x .answer)) e ∙ ap told (answers words names ids)
+      ap (λ (x : Started). settingTold (x .answer)) e ∙ ap settingTold (answers words names ids)
           ∙ agree (settingsOf words names ids),
       handed-shaped words names ids h k,
     ),

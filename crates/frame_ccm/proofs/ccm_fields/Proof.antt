@@ -12,7 +12,6 @@ use Rattle.base_laws.specs.Lists.{part}
 use Rattle.base_numbers.specs.Numbers.{number, bigEndian}
 use Rattle.frame_head.specs.Head.{pduOf, flagsOf, word}
 use Rattle.frame_message.specs.Message.{periodCode}
-use Rattle.frame_ccm.specs.declared.CcmFields.{CcmFields}
 use Rattle.frame_ccm.specs.Ccm.{ccmIn, noCcm, ccmOf}
 use Rattle.frame_message.proofs.There.{one, is, is-not}
 use Rattle.base_laws.proofs.Places.{at}

@@ -1,8 +1,8 @@
 -- `frame_head::destination` meets its contract: those six octets with their place; of a shorter frame nothing.
-use Prim.Native.Nat.{ℕ, _+_}
+use Prim.Native.Nat.{_+_}
 use mathlib.Core.Path.{sym, ap}
 use mathlib.Core.Bool.{Bool, cond}
-use mathlib.Core.List.{List, []}
+use mathlib.Core.List.{[]}
 use native.Mathlib.Omega.{arith}
 use denote.Ref.{now, ptr}
 use lib.ListN.{length}

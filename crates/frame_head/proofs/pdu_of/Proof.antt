@@ -1,5 +1,5 @@
 -- `frame_head::pdu_of` meets its contract: where the frame ends before its PDU, nothing is left of it; else the part behind the head.
-use mathlib.Core.Path.{sym, ap, _∙_}
+use mathlib.Core.Path.{sym, ap}
 use mathlib.Core.Bool.{Bool, cond}
 use Prim.Native.Nat.{ℕ, _+_, _-_, _≤_}
 use native.Mathlib.Omega.{arith}

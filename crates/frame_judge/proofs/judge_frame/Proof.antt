@@ -1,8 +1,6 @@
 -- `frame_judge::judge_frame` meets its contract: at each return the tests that led there pick the case of `judge`.
 use native.Mathlib.Omega.{arith}
-use mathlib.Core.Path.{_≡_, sym, ap, _∙_}
-use Prim.Native.Nat.{ℕ}
-use mathlib.Core.List.{List}
+use mathlib.Core.Path.{sym, ap, _∙_}
 use denote.Ref.{now}
 use Rattle.base_laws.proofs.Places.{at}
 use borrow.Author.Needs.{needs}

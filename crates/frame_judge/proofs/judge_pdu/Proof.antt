@@ -1,10 +1,8 @@
 -- `frame_judge::judge_pdu` meets its contract: at each return the tests that led there pick the case of `judgePdu`.
 use native.Mathlib.Omega.{arith}
 use mathlib.Core.Path.{_≡_, sym, ap, _∙_}
-use mathlib.Core.Bool.{true}
 use Prim.Native.Nat.{_≤_, _<_}
 use denote.Ref.{now}
-use lib.ListN.{length}
 use Rattle.base_laws.proofs.Places.{at}
 use borrow.Author.Needs.{needs}
 use borrow.Author.Tests.{not-true, not-false}

@@ -1,5 +1,5 @@
 -- `frame_loopback_alarm::alarm_period` meets its contract: the period code of a good AIS or LCK.
-use mathlib.Core.Path.{_≡_, refl, sym, ap, _∙_}
+use mathlib.Core.Path.{refl, sym, ap, _∙_}
 use mathlib.Core.List.{List}
 use Prim.Native.Nat.{ℕ}
 use native.Mathlib.Omega.{arith}

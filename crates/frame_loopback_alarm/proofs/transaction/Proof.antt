@@ -1,7 +1,5 @@
 -- `frame_loopback_alarm::transaction` meets its contract: the number of a good LBM or LBR.
-use mathlib.Core.Path.{_≡_, refl, sym, ap, _∙_}
-use mathlib.Core.List.{List}
-use Prim.Native.Nat.{ℕ}
+use mathlib.Core.Path.{refl, sym, ap, _∙_}
 use native.Mathlib.Omega.{arith}
 use denote.Ref.{now}
 use Rattle.base_laws.specs.Tests.{choose}

@@ -8,7 +8,6 @@ use Rattle.base_laws.specs.Tests.{choose}
 use Rattle.frame_opcodes.specs.Opcodes.{ruleOf}
 use mathlib.Core.Bool.{true, false}
 use Rattle.frame_head.specs.Head.{pduOf, word}
-use Rattle.frame_measures.specs.declared.DelayFields.{DelayFields}
 use Rattle.frame_measures.specs.Measures.{delayIn, noDelay, delayOf}
 use Rattle.frame_message.proofs.There.{two, either}
 use Rattle.base_laws.proofs.Places.{at}

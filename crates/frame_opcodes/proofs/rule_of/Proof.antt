@@ -43,9 +43,7 @@ unfolding ruleOf choose
 returns-9 c = ap ruleOf (sym (c .match .keys9))
 
 returns-10 : tie.Need-returns-10
-returns-10 c = let r = c .match .rest in
-    sym (rule-none _ (r .0 .0 .0 .0 .0 .0 .0 .0 .1) (r .0 .0 .0 .0 .0 .0 .0 .1) (r .0 .0 .0 .0 .0 .0 .1) (r .0 .0 .0 .0 .0 .1)
-    (r .0 .0 .0 .0 .1) (r .0 .0 .0 .1) (r .0 .0 .1) (r .0 .1) (r .1))
+returns-10 c = sym (search rule-none)
 
 pub rule-of-spec : {M : Type 1} → statement M
 rule-of-spec =

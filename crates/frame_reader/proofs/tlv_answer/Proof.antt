@@ -6,15 +6,15 @@ use Rattle.base_laws.proofs.Places.{at}
 use borrow.Author.Needs.{needs}
 use Rattle.frame_reader.specs.Reader.{answerAt, answerOf}
 use Rattle.frame_reader_answer.specs.declared.TlvAnswer.{TlvAnswer}
-use Rattle.frame_reader_answer.specs.Told.{told}
-use Rattle.frame_reader.specs.Numbers.{numbersOf}
+use Rattle.frame_reader_answer.specs.Told.{tlvTold}
+use Rattle.frame_reader.specs.Numbers.{tlvNumbers}
 use Rattle.frame_reader.proofs.Numbers.{agree}
 use Rattle.frame_reader.proofs.tlv_answer.Statement.{statement}
 use Rattle.frame_reader.proofs.tlv_answer.Tie as tie
 
 -- an answer that is the definition's tells the paper's numbers
-kept : (f : List ℕ) (kind : ℕ) (a : TlvAnswer) → a ≡ answerOf f kind → (a ≡ answerOf f kind) × (told a ≡ numbersOf f kind)
-kept f kind a e = (e, ap told e ∙ agree f kind)
+kept : (f : List ℕ) (kind : ℕ) (a : TlvAnswer) → a ≡ answerOf f kind → (a ≡ answerOf f kind) × (tlvTold a ≡ tlvNumbers f kind)
+kept f kind a e = (e, ap tlvTold e ∙ agree f kind)
 
 returns : tie.Need-returns
 unfolding answerOf

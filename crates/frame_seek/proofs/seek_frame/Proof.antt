@@ -1,4 +1,5 @@
--- `frame_seek::seek_frame` meets its contract: what the frame's head says, then whether the walk for the end is cut, then what the walk for the type
+-- `frame_seek::seek_frame` meets its contract: what the frame's head says, then whether the walk for the end is cut, then what the walk for
+-- the type
 -- finds, at its place in the frame.
 use native.Mathlib.Omega.{arith}
 use mathlib.Core.Path.{_≡_, sym, ap, _∙_}

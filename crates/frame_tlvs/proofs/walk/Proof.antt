@@ -2,7 +2,7 @@
 -- what is left of the PDU.
 use native.Mathlib.Omega.{arith}
 use mathlib.Core.Path.{_≡_, refl, ap, sym, _∙_}
-use Prim.Native.Nat.{ℕ, _+_, _-_, _≤_}
+use Prim.Native.Nat.{ℕ, _+_, _-_}
 use denote.Ref.{now}
 use lib.ListN.{length}
 use Rattle.base_laws.proofs.Places.{at}

@@ -1,5 +1,5 @@
 -- `frame_value::outcome` meets its contract, case by case.
-use mathlib.Core.Path.{refl, sym, ap, ap₂}
+use mathlib.Core.Path.{sym, ap, ap₂}
 use Rattle.base_laws.proofs.Places.{at}
 use borrow.Author.Needs.{needs}
 use Rattle.frame_reader_answer.specs.declared.TlvAnswer.{TlvAnswer}

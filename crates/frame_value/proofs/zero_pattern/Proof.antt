@@ -1,11 +1,11 @@
--- `frame_value::zero_pattern` meets its contract: zeros alone, and the pattern type among them. The loop's invariant: what is left to test decides. The
+-- `frame_value::zero_pattern` meets its contract: zeros alone, and the pattern type among them. The loop's invariant: what is left to test
+-- decides. The
 -- measure is what is left.
 use native.Mathlib.Omega.{arith}
 use Prim.Native.Nat.{_-_}
 use mathlib.Core.Path.{_≡_, refl, sym, ap, _∙_}
 use mathlib.Core.Bool.{Bool, true, false, _&&_}
 use denote.Ref.{now}
-use lib.Dec.{ltb}
 use lib.ListN.{length}
 use borrow.Author.Tests.{eq-eqb, ne-eqb, lt-ltb}
 use Rattle.base_laws.proofs.Places.{at}

@@ -1,7 +1,7 @@
 -- `linkbox_frame::linkbox_frame` meets its contract: the room's answer, told.
 use mathlib.Core.Path.{sym}
 use Rattle.base_laws.proofs.Ended.{told-by}
-use Rattle.receive_answer.specs.Told.{told}
+use Rattle.receive_answer.specs.Told.{frameTold}
 use Rattle.base_laws.proofs.Places.{at}
 use borrow.Author.Needs.{needs}
 use Rattle.linkbox_frame.proofs.linkbox_frame.Statement.{statement}
@@ -10,7 +10,7 @@ use Rattle.linkbox_frame.proofs.linkbox_frame.Tie as tie
 returns : tie.Need-returns
 returns c =
     let e = at tie.After-on-frame (search) .on-frame .ensures in
-    rw (sym (at tie.After-side-of (search) .side-of .ensures)) (told-by told (c .tell .ensures) (e .0), e .1 .1)
+    rw (sym (at tie.After-side-of (search) .side-of .ensures)) (told-by frameTold (c .tell .ensures) (e .0), e .1 .1)
 
 pub linkbox-frame-spec : {M : Type 1} → statement M
 linkbox-frame-spec =

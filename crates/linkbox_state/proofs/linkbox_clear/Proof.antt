@@ -1,7 +1,7 @@
 -- `linkbox_state::linkbox_clear` meets its contract: the room's answer, told.
 use mathlib.Core.Path.{ap}
 use Rattle.base_laws.proofs.Ended.{told-by}
-use Rattle.call_clear.specs.Clear.{told}
+use Rattle.call_clear.specs.Clear.{clearTold}
 use Rattle.call_clear.specs.declared.ClearTold.{ClearTold}
 use borrow.Author.Needs.{needs}
 use Rattle.linkbox_state.proofs.linkbox_clear.Statement.{statement}
@@ -9,7 +9,7 @@ use Rattle.linkbox_state.proofs.linkbox_clear.Tie as tie
 
 returns : tie.Need-returns
 returns c = let e = c .before .clear .ensures in
-    (told-by (λ answer. told answer .refusal) (ap (λ (t : ClearTold). t .refusal) (c .tell .ensures)) (e .0 .0), e .1)
+    (told-by (λ answer. clearTold answer .refusal) (ap (λ (t : ClearTold). t .refusal) (c .tell .ensures)) (e .0 .0), e .1)
 
 pub linkbox-clear-spec : {M : Type 1} → statement M
 linkbox-clear-spec = tie.close

@@ -1,4 +1,5 @@
--- `loss_step::measured` meets its contract: both losses, and both totals carried on, which the bound of a well-formed session keeps in 64 bits.
+-- `loss_step::measured` meets its contract: both losses, and both totals carried on, which the bound of a well-formed session keeps in 64
+-- bits.
 use Prim.Native.Nat.{_+_}
 use mathlib.Core.Path.{_≡_, refl, ap, _∙_}
 use lib.IntN.{ℤ, _+ℤ_}

@@ -10,7 +10,7 @@ use Rattle.loss_session.specs.declared.LossSession.{LossSession}
 use Rattle.loss_reading.specs.declared.Updated.{Updated}
 use Rattle.loss_session.specs.Session.{wellFormed}
 use Rattle.loss_reading.specs.Reading.{afterReading}
-use Rattle.loss_reading.specs.Told.{told, numbersOf}
+use Rattle.loss_reading.specs.Told.{lossTold, lossNumbers}
 use Rattle.loss_session.proofs.Laws.{well}
 use Rattle.loss_reading.proofs.Laws.{reading-bad, reading-first, reading-full, reading-measured}
 use Rattle.loss_reading.proofs.Numbers.{told-numbers}
@@ -18,8 +18,9 @@ use Rattle.loss_step.proofs.take_reading.Statement.{statement}
 use Rattle.loss_step.proofs.take_reading.Tie as tie
 
 -- an outcome that is the definition's tells the paper's numbers
-kept : (s : LossSession) (r : Readings) (u : Updated) → u ≡ afterReading s r → (u ≡ afterReading s r) × (told (u .answer) ≡ numbersOf s r)
-kept s r u e = (e, ap (λ (v : Updated). told (v .answer)) e ∙ told-numbers s r)
+kept : (s : LossSession) (r : Readings) (u : Updated) → u ≡ afterReading s r → (u ≡ afterReading s r)
+    × (lossTold (u .answer) ≡ lossNumbers s r)
+kept s r u e = (e, ap (λ (v : Updated). lossTold (v .answer)) e ∙ told-numbers s r)
 
 -- past the first test
 good : (c : tie.Else1) → wellFormed (at tie.Start (search) .args .s) ≡ true

@@ -1,5 +1,5 @@
 -- `message_ccm::write_ccm` meets its contract: address, head and fixed part, each laid behind the one before it.
-use mathlib.Core.Path.{_≡_, sym, ap, _∙_}
+use mathlib.Core.Path.{_≡_, ap, _∙_}
 use mathlib.Core.List.{List}
 use Prim.Native.Nat.{ℕ}
 use native.Mathlib.Omega.{arith}

@@ -3,7 +3,6 @@ use mathlib.Core.Path.{_≡_, refl}
 use mathlib.Core.List.{[]}
 use denote.Ref.{now}
 use lib.ListN.{length}
-use Rattle.message_lbr.specs.Lbr.{lbrOctets}
 use Rattle.message_reply.proofs.Laid.{over, Within}
 use Rattle.message_reply.proofs.Over.{cut-off, no-room, written}
 use Rattle.base_laws.proofs.Places.{at}

@@ -1,6 +1,5 @@
 -- `message_lmm::write_lmm` meets its contract: destination, head, what is sent and zeros, each laid behind the one before it.
-use mathlib.Core.Path.{_≡_, sym}
-use native.Mathlib.Omega.{arith}
+use mathlib.Core.Path.{_≡_}
 use denote.Ref.{now}
 use lib.ListN.{length}
 use Rattle.base_laws.specs.Lists.{part}

@@ -24,7 +24,8 @@ returns c = let a = at tie.Start (search) .args in
     let w : length (now (a .run)) ≡ runWords = search needs in
     let z : length (now (a .totals)) ≡ 2 = search needs in (
       ap (λ (t : State). ended Passed t [])
-          (Stores.word (now (a .set)) (now (a .names)) (now (a .ids)) (now (a .timers)) (now (a .rdi)) (now (a .totals)) (c .one-more .result)
+          (Stores.word (now (a .set)) (now (a .names)) (now (a .ids)) (now (a .timers)) (now (a .rdi)) (now (a .totals))
+          (c .one-more .result)
           word.sent (now (a .run)) w ∙ ap (λ (x : ℕ). put word.sent x s) (c .one-more .ensures))
           ∙ sym (ap (applied s) (at tie.After-enum-told (search) .enum-told .given .1)),
       record { words = simp length-set w; both = z },
@@ -37,7 +38,8 @@ returns-2 c = let a = at tie.Start (search) .args in
     let w : length (now (a .run)) ≡ runWords = search needs in
     let z : length (now (a .totals)) ≡ 2 = search needs in (
       ap (λ (t : State). ended Passed t [])
-          (Stores.word (now (a .set)) (now (a .names)) (now (a .ids)) (now (a .timers)) (now (a .rdi)) (now (a .totals)) (c .one-more2 .result)
+          (Stores.word (now (a .set)) (now (a .names)) (now (a .ids)) (now (a .timers)) (now (a .rdi)) (now (a .totals))
+          (c .one-more2 .result)
           word.received (now (a .run)) w ∙ ap (λ (x : ℕ). put word.received x s) (c .one-more2 .ensures))
           ∙ sym (ap (applied s) (at tie.After-enum-told2 (search) .enum-told2 .given .1)),
       record { words = simp length-set w; both = z },
@@ -50,7 +52,8 @@ returns-3 c = let a = at tie.Start (search) .args in
     let w : length (now (a .run)) ≡ runWords = search needs in
     let z : length (now (a .totals)) ≡ 2 = search needs in (
       ap (λ (t : State). ended (Dropped Level) t [])
-          (Stores.word (now (a .set)) (now (a .names)) (now (a .ids)) (now (a .timers)) (now (a .rdi)) (now (a .totals)) (c .hold-of .result)
+          (Stores.word (now (a .set)) (now (a .names)) (now (a .ids)) (now (a .timers)) (now (a .rdi)) (now (a .totals))
+          (c .hold-of .result)
           word.unexpected-level (now (a .run)) w ∙ ap (λ (x : ℕ). put word.unexpected-level x s) (c .hold-of .ensures))
           ∙ sym (ap (applied s) (at tie.After-enum-told3 (search) .enum-told3 .given .1)),
       record { words = simp length-set w; both = z },

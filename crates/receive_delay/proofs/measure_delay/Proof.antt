@@ -1,4 +1,5 @@
--- `receive_delay::measure_delay` meets its contract: the tests that led to a return pick the case, the sizes of the differences rule D8 out, and a
+-- `receive_delay::measure_delay` meets its contract: the tests that led to a return pick the case, the sizes of the differences rule D8
+-- out, and a
 -- signed number that was stored and read again is what it was.
 use mathlib.Core.Path.{_≡_, sym, ap, ap₂, _∙_}
 use mathlib.Core.Bool.{true}
@@ -15,7 +16,7 @@ use Rattle.receive_delay.specs.declared.DelayAnswer.{DelayAnswer}
 use Rattle.receive_delay.specs.declared.DelayAnswer.the-variants.{TwoWay, AllWays}
 use Rattle.receive_delay.specs.Used.{usable}
 use Rattle.receive_delay.specs.Delays.{delaysOf}
-use Rattle.receive_delay.specs.Told.{told, numbersOf}
+use Rattle.receive_delay.specs.Told.{delayTold, delayNumbers}
 use Rattle.receive_delay.proofs.Laws.{furthest, stay-size, delays-bad, delays-two, delays-all}
 use Rattle.receive_delay.proofs.Numbers.{told-numbers}
 use Rattle.receive_delay.proofs.measure_delay.Statement.{statement}
@@ -23,8 +24,8 @@ use Rattle.receive_delay.proofs.measure_delay.Tie as tie
 
 -- an answer that is the definition's tells the paper's numbers
 kept : (txf rxf txb here : Stamp) (a : DelayAnswer) → a ≡ delaysOf txf rxf txb here → (a ≡ delaysOf txf rxf txb here)
-    × (told a ≡ numbersOf txf rxf txb here)
-kept txf rxf txb here a e = (e, ap told e ∙ told-numbers txf rxf txb here)
+    × (delayTold a ≡ delayNumbers txf rxf txb here)
+kept txf rxf txb here a e = (e, ap delayTold e ∙ told-numbers txf rxf txb here)
 
 -- a difference as the definition has it is as small as the code's
 bound : {x y : ℤ} → (x ≡ y) × (natAbs x ≤ furthest) → natAbs y ≤ furthest

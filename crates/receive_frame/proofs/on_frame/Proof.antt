@@ -2,21 +2,20 @@
 use mathlib.Core.Path.{_≡_, sym, ap, ap₂, _∙_}
 use mathlib.Core.Bool.{Bool, _&&_}
 use denote.Ref.{now}
-use lib.ListN.{length}
 use borrow.Author.Tests.{not-false, not-true}
 use lib.IntN.{ℤ}
 use mathlib.Core.List.{List}
 use Prim.Native.Nat.{ℕ}
 use Rattle.base_laws.specs.Ended.{Ended}
-use Rattle.state_view.specs.State.{State, viewOf, runWords}
+use Rattle.state_view.specs.State.{State, viewOf}
 use Rattle.state_places.specs.Stored.{Whole}
 use Rattle.base_stamp.specs.declared.Stamp.{Stamp}
 use Rattle.base_stamp.specs.Stamps.{Wire}
-use Rattle.receive_answer.specs.Told.{told}
+use Rattle.receive_answer.specs.Told.{frameTold}
 use Rattle.receive_class.specs.declared.Side.{Side}
 use Rattle.receive_carry_out.specs.CarryOut.{carriedOut}
 use Rattle.receive_frame.specs.Frame.{frameOf}
-use Rattle.receive_frame.specs.Numbers.{numbersOf}
+use Rattle.receive_frame.specs.Numbers.{frameNumbers}
 use Rattle.receive_frame.proofs.Numbers.{agree}
 use Rattle.receive_frame.proofs.Stages.{outside, refused-2, refused-1, refused-6, heeded}
 use Rattle.base_laws.proofs.Places.{at}
@@ -30,8 +29,8 @@ module _ (s : State) (side : Side) (f : List ℕ) (receive transmit : Stamp) (bu
   ends : {x : Ended State FrameAnswer} {words : List ℕ} {totals : List ℤ} → x ≡ frameOf s side f receive transmit buffer
       → Whole words totals → Wire receive → Wire transmit
       → (x ≡ frameOf s side f receive transmit buffer)
-      × ((told (x .answer) ≡ numbersOf s side f receive transmit buffer) × (Whole words totals × (Wire receive × Wire transmit)))
-  ends e w v t = (e, (ap (λ (y : Ended State FrameAnswer). told (y .answer)) e ∙ agree s side f receive transmit buffer, (w, (v, t))))
+      × ((frameTold (x .answer) ≡ frameNumbers s side f receive transmit buffer) × (Whole words totals × (Wire receive × Wire transmit)))
+  ends e w v t = (e, (ap (λ (y : Ended State FrameAnswer). frameTold (y .answer)) e ∙ agree s side f receive transmit buffer, (w, (v, t))))
 
 -- a stamp that came as a value is as wide as its words
 wired : (c : tie.Start) → Wire (c .args .receive) × Wire (c .args .transmit)

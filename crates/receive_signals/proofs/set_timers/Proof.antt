@@ -83,7 +83,8 @@ returns-4 c = let a = at tie.Start (search) .args in
     let z : length (now (a .totals)) ≡ 2 = search needs in (
       stored-other (now (a .set)) (now (a .names)) (now (a .ids)) (now (a .run)) (now (a .totals)) (now (a .timers)) (now (a .rdi)) _ _
           (at tie.After-signal2 (search) .signal2 .given .0 .0) (at tie.After-hold-of (search) .hold-of .result)
-          (at tie.After-signal2 (search) .signal2 .given .0 .1 .0) (at tie.After-put-slot3 (search) .put-slot3 .ensures) (c .put-slot4 .ensures)
+          (at tie.After-signal2 (search) .signal2 .given .0 .1 .0) (at tie.After-put-slot3 (search) .put-slot3 .ensures)
+          (c .put-slot4 .ensures)
           (at tie.After-hold-of (search) .hold-of .ensures) w
           ∙ sym (ap (signalled s) (at tie.After-signal2 (search) .signal2 .given .1)),
       record { words = simp length-set w; both = z },

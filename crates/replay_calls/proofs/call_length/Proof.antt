@@ -1,7 +1,7 @@
 -- `replay_calls::call_length` meets its contract, by its two tests.
 use native.Mathlib.Omega.{arith}
 use denote.Ref.{now}
-use Rattle.replay_calls.proofs.Calls.{length-low, length-high, length-in}
+use Rattle.replay_calls.proofs.RecordedCalls.{length-low, length-high, length-in}
 use Rattle.base_laws.proofs.Places.{at}
 use borrow.Author.Needs.{needs}
 use Rattle.replay_calls.proofs.call_length.Statement.{statement}

@@ -2,8 +2,8 @@
 use mathlib.Core.Path.{ap}
 use lib.Dec.{ltb}
 use native.Mathlib.Omega.{arith}
-use Rattle.replay_calls.specs.Calls.{handsOver}
-use Rattle.replay_calls.proofs.Calls.{row-most, place-read}
+use Rattle.replay_calls.specs.RecordedCalls.{handsOver}
+use Rattle.replay_calls.proofs.RecordedCalls.{row-most, place-read}
 use borrow.Author.Needs.{needs}
 use Rattle.replay_calls.proofs.hands_over.Statement.{statement}
 use Rattle.replay_calls.proofs.hands_over.Tie as tie

@@ -5,8 +5,8 @@ use denote.Ref.{now}
 use Prim.Native.Nat.{_<_}
 use mathlib.Core.List.{[], _∷_, _++_}
 use lib.ListN.{getD}
-use Rattle.replay_calls.specs.Calls.{places, placeOf, frontNumber}
-use Rattle.replay_calls.proofs.Calls.{row-most, place-read, room-cut, room-none, room-short, room-there}
+use Rattle.replay_calls.specs.RecordedCalls.{places, placeOf, frontNumber}
+use Rattle.replay_calls.proofs.RecordedCalls.{row-most, place-read, room-cut, room-none, room-short, room-there}
 use Rattle.base_laws.proofs.Places.{at}
 use borrow.Author.Needs.{needs}
 use Rattle.replay_calls.proofs.room_of.Statement.{statement}

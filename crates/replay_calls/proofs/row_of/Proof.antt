@@ -1,6 +1,6 @@
 -- `replay_calls::row_of` meets its contract, by its two tests.
 use native.Mathlib.Omega.{arith}
-use Rattle.replay_calls.proofs.Calls.{row-below, row-above, row-in}
+use Rattle.replay_calls.proofs.RecordedCalls.{row-below, row-above, row-in}
 use Rattle.base_laws.proofs.Places.{at}
 use borrow.Author.Needs.{needs}
 use Rattle.replay_calls.proofs.row_of.Statement.{statement}

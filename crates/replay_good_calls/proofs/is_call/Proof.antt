@@ -6,7 +6,7 @@ use native.Mathlib.Omega.{arith}
 use denote.Ref.{now}
 use lib.Dec.{leb}
 use lib.ListN.{length}
-use Rattle.replay_calls.proofs.Calls.{row-most}
+use Rattle.replay_calls.proofs.RecordedCalls.{row-most}
 use Rattle.replay_good_calls.proofs.GoodCalls.{body-read, call-cut, call-is}
 use Rattle.base_laws.proofs.Places.{at}
 use borrow.Author.Needs.{needs}

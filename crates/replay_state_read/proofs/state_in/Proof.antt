@@ -20,7 +20,8 @@ run-in-requires c κs = rw
 returns : tie.Need-returns
 unfolding part
 returns c =
-    let from = now (c .before .before .before .before .before .before .before .before .before .before .before .before .before .before .before .before .before .before .before .before .args .from) in
+    let from =
+    now (c .before .before .before .before .before .before .before .before .before .before .before .before .before .before .before .before .before .before .before .before .args .from) in
     let long : length from ≡ 194
     = c .before .before .before .before .before .before .before .before .before .before .before .before .before .before .before .before .before .before .before .all .given .0 in
     let f = c .before .before .before .before .before .before .before .before .before .before .before .before .before .before .before .before .copy-octets in

@@ -1,7 +1,8 @@
--- `replay_state_read::words_in` meets its contract. The invariant: the first i words are read, and `place` is where the next one stands. The measure is how
+-- `replay_state_read::words_in` meets its contract. The invariant: the first i words are read, and `place` is where the next one stands.
+-- The measure is how
 -- many are left.
 use Prim.Native.Nat.{ℕ, _+_, _*_, _-_, _≤_}
-use mathlib.Core.Path.{_≡_, refl, ap, _∙_}
+use mathlib.Core.Path.{_≡_, ap, _∙_}
 use mathlib.Core.List.{List}
 use native.Mathlib.Omega.{arith}
 use native.Mathlib.Nat.{mul-zero}

@@ -1,6 +1,5 @@
 -- `replay_state_write::write_running` meets its contract: four pieces, each laid behind the one before it.
 use mathlib.Core.Path.{refl}
-use native.Mathlib.Omega.{arith}
 use denote.Ref.{now}
 use Rattle.replay_state.proofs.State.{running-laid}
 use Rattle.base_laws.proofs.Places.{at}

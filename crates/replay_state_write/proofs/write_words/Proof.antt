@@ -1,4 +1,5 @@
--- `replay_state_write::write_words` meets its contract. The invariant: the first i words are laid, and `place` is where the next one goes. The measure is how
+-- `replay_state_write::write_words` meets its contract. The invariant: the first i words are laid, and `place` is where the next one goes.
+-- The measure is how
 -- many are left.
 use Prim.Native.Nat.{ℕ, _+_, _*_, _-_, _≤_}
 use mathlib.Core.Path.{_≡_, refl, ap, _∙_}

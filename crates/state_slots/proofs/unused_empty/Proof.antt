@@ -1,6 +1,6 @@
 -- `state_slots::unused_empty` meets its contract. The invariant: the slots joined so far, and those from i on, decide as all do.
-use Prim.Native.Nat.{_+_, _-_, _≤_}
-use mathlib.Core.Path.{_≡_, sym, subst}
+use Prim.Native.Nat.{_+_, _-_}
+use mathlib.Core.Path.{sym, subst}
 use mathlib.Core.Bool.{Bool}
 use native.Mathlib.Omega.{arith}
 use denote.Ref.{now}

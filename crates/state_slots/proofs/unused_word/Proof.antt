@@ -1,5 +1,4 @@
 -- `state_slots::unused_word` meets its contract.
-use mathlib.Core.Path.{refl}
 use native.Mathlib.Omega.{arith}
 use borrow.Author.Tests.{lt-ltb, le-ltb}
 use Rattle.state_slots.proofs.unused_word.Statement.{statement}

@@ -1,5 +1,4 @@
 -- `state_well_formed::is_well_formed` meets its contract: five groups of rules, one behind the other.
-use Prim.Native.Nat.{ℕ}
 use mathlib.Core.Path.{_≡_, sym, ap, _∙_}
 use mathlib.Core.Bool.{Bool, true, false, _&&_}
 use denote.Ref.{now}

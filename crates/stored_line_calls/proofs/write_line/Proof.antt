@@ -1,4 +1,5 @@
--- `stored_line_calls::write_line` meets its contract: three fields, each laid behind the one before it, are the body; it and whether the line keeps the rules
+-- `stored_line_calls::write_line` meets its contract: three fields, each laid behind the one before it, are the body; it and whether the
+-- line keeps the rules
 -- are handed to the writer of records.
 use denote.Ref.{now}
 use mathlib.Core.Path.{_≡_, refl, ap₂, _∙_}
@@ -8,9 +9,9 @@ use Prim.Native.Nat.{ℕ}
 use mir.Syntax.{w64}
 use mir.Val.{toZ, ofZ}
 use lib.ListN.{replicate}
-use Rattle.stored_record.specs.Writing.{writeRecord, numbersOf}
+use Rattle.stored_record.specs.Writing.{writeRecord, recordNumbers}
 use Rattle.stored_line.specs.Line.{lineBody}
-use Rattle.stored_line.specs.Calls.{writeLine}
+use Rattle.stored_line.specs.LineCalls.{writeLine}
 use Rattle.stored_line.proofs.Laws.{body-laid}
 use Rattle.base_laws.proofs.Places.{at}
 use borrow.Author.Needs.{needs}
@@ -30,7 +31,7 @@ returns c =
     (at tie.After-write-little-signed2 (search) .write-little-signed2 .ensures) (at tie.After-write-little (search) .write-little .ensures)
     in (
       w .ensures .0 ∙ ap₂ (λ (b : Bool) (l : List ℕ). writeRecord b 2 l (now (a .into))) good body,
-      w .ensures .1 ∙ ap₂ (λ (b : Bool) (l : List ℕ). numbersOf b l (now (a .into))) good body,
+      w .ensures .1 ∙ ap₂ (λ (b : Bool) (l : List ℕ). recordNumbers b l (now (a .into))) good body,
     )
 
 pub write-line-spec : {M : Type 1} → statement M

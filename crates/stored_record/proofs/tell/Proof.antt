@@ -1,21 +1,21 @@
 -- `stored_record::tell` meets its contract: each arm is its line of `told`.
 use mathlib.Core.Path.{sym, ap}
-use Rattle.stored_record.specs.Writing.{told}
+use Rattle.stored_record.specs.Writing.{recordTold}
 use borrow.Author.Needs.{needs}
 use Rattle.stored_record.proofs.tell.Statement.{statement}
 use Rattle.stored_record.proofs.tell.Tie as tie
 
 returns : tie.Need-returns
-unfolding told
-returns c = sym (ap told (c .enum-told .given .1))
+unfolding recordTold
+returns c = sym (ap recordTold (c .enum-told .given .1))
 
 returns-2 : tie.Need-returns-2
-unfolding told
-returns-2 c = sym (ap told (c .enum-told2 .given .1))
+unfolding recordTold
+returns-2 c = sym (ap recordTold (c .enum-told2 .given .1))
 
 returns-3 : tie.Need-returns-3
-unfolding told
-returns-3 c = sym (ap told (c .before .answer .given .1))
+unfolding recordTold
+returns-3 c = sym (ap recordTold (c .before .answer .given .1))
 
 pub tell-spec : {M : Type 1} → statement M
 tell-spec =

@@ -1,5 +1,4 @@
 -- `stored_record::write_record` meets its contract: one law for each way that it ends.
-use native.Mathlib.Omega.{arith}
 use denote.Ref.{now}
 use Rattle.stored_record.proofs.Writing.{ends-4, ends-3, ends-written, fits}
 use Rattle.base_laws.proofs.Places.{at}

@@ -1,8 +1,9 @@
--- `stored_replies::recount` meets its contract. The loop's invariant: the records of the replies so far stand in the buffer, and what the rest gives from the
+-- `stored_replies::recount` meets its contract. The loop's invariant: the records of the replies so far stand in the buffer, and what the
+-- rest gives from the
 -- session now is still to come. The measure is the replies that are left.
 use native.Mathlib.Omega.{arith}
 use denote.Ref.{now}
-use Prim.Native.Nat.{_*_, _/_, _-_, _≤_}
+use Prim.Native.Nat.{_/_, _-_, _≤_}
 use mathlib.Core.Path.{_≡_, refl, sym, ap, _∙_}
 use mathlib.Core.Bool.{true}
 use lib.ListN.{length}
@@ -12,7 +13,8 @@ use borrow.Author.Needs.{needs}
 use Rattle.base_laws.specs.Ended.{wrote}
 use Rattle.loss_session.specs.Session.{wellFormed}
 use Rattle.stored_replies.specs.declared.Recounted.{Recounted}
-use Rattle.stored_replies.proofs.Turns.{ends-not-well, ends-no-room, SoFar, at-start, at-end, turn-halts, turn-kept, turn-room, turn-goes}
+use Rattle.stored_replies.proofs.Turns.{ends-not-well, ends-no-room, SoFar, at-start, at-end, turn-halts, turn-kept, turn-room}
+use Rattle.stored_replies.proofs.Turns.{turn-goes}
 use Rattle.stored_replies.proofs.recount.Statement.{statement}
 use Rattle.stored_replies.proofs.recount.Tie as tie
 

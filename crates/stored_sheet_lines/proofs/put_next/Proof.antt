@@ -1,7 +1,6 @@
 -- `stored_sheet_lines::put_next` meets its contract: the refusal at a bad record, the line of a good one.
-use native.Mathlib.Omega.{arith}
 use denote.Ref.{now}
-use mathlib.Core.Path.{_≡_, sym, _∙_}
+use mathlib.Core.Path.{sym, _∙_}
 use Rattle.base_laws.proofs.Places.{at}
 use Rattle.stored_sheet_lines.proofs.LinePieces.{next-refused, next-line}
 use borrow.Author.Needs.{needs}

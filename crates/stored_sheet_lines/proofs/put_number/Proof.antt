@@ -1,7 +1,6 @@
 -- `stored_sheet_lines::put_number` meets its contract: the text of the number, and one octet stored behind it.
 use native.Mathlib.Omega.{arith}
 use denote.Ref.{now}
-use lib.ListN.{length, length-set}
 use mathlib.Core.Path.{_≡_}
 use mir.Syntax.{w64}
 use mir.Val.{SFits, toZ, ofZ}

@@ -1,16 +1,17 @@
--- `stored_sheet_lines::write_lines` meets its contract. The loop's invariant: the text of the records so far stands in the buffer, and the text of the rest is
+-- `stored_sheet_lines::write_lines` meets its contract. The loop's invariant: the text of the records so far stands in the buffer, and the
+-- text of the rest is
 -- still to come. The measure is what is left to read.
 use native.Mathlib.Omega.{arith}
 use Rattle.base_laws.proofs.Places.{at}
 use borrow.Author.Needs.{needs}
 use denote.Ref.{now}
-use Prim.Native.Nat.{_+_, _*_, _-_, _≤_}
-use lib.ListN.{length, length-drop}
+use Prim.Native.Nat.{_-_, _≤_}
+use lib.ListN.{length}
 use borrow.Author.Tests.{not-true, not-false}
 use Rattle.base_laws.proofs.Loops.{part-rest}
 use Rattle.stored_sheet_lines.specs.Chunk.{room}
 use Rattle.stored_sheet_lines.proofs.Chunks.{ends-no-room}
-use Rattle.stored_sheet_lines.proofs.Turns.{SoFar, at-start, at-end, line-room, turn-stops, turn-whole, turn-goes}
+use Rattle.stored_sheet_lines.proofs.Turns.{SoFar, at-start, at-end, line-room, turn-stops, turn-goes}
 use Rattle.stored_sheet_lines.proofs.write_lines.Statement.{statement}
 use Rattle.stored_sheet_lines.proofs.write_lines.Tie as tie
 

@@ -1,5 +1,5 @@
 -- The laws of the tests, one for each way that the code goes. Assumes nothing.
-use Prim.Native.Nat.{ℕ, _+_, _-_, _≤_, _<_}
+use Prim.Native.Nat.{ℕ, _-_, _≤_, _<_}
 use mathlib.Core.Path.{_≡_, ap, _∙_}
 use mathlib.Core.List.{List, [], _∷_, _++_}
 use mathlib.Core.Logic.{⊎-elim}
@@ -11,7 +11,7 @@ use Rattle.base_laws.specs.Tests.{choose}
 use Rattle.base_laws.specs.Lists.{part}
 use Rattle.base_laws.proofs.Tests.{known}
 use Rattle.base_numbers.specs.Numbers.{littleEndian, number}
-use Rattle.replay_calls.specs.Calls.{places, rowOf, placeOf, frontNumber, callLength, roomAt, roomOf}
+use Rattle.replay_calls.specs.RecordedCalls.{places, rowOf, placeOf, frontNumber, callLength, roomAt, roomOf}
 
 -- ── the rows ──
 
@@ -34,7 +34,8 @@ module _ (n : ℕ) where
       ⊎-elim (λ t. omega (arith, row-below (ltb-true n 257 t)))
       (λ t.
       let low : 257 ≤ n = ltb-false n 257 t in
-      ⊎-elim (λ u. omega (arith, row-above low (ltb-true 272 n u))) (λ u. omega (arith, low, ltb-false 272 n u, row-in low (ltb-false 272 n u))) (known (ltb 272 n)))
+      ⊎-elim (λ u. omega (arith, row-above low (ltb-true 272 n u)))
+      (λ u. omega (arith, low, ltb-false 272 n u, row-in low (ltb-false 272 n u))) (known (ltb 272 n)))
       (known (ltb n 257))
 
   module _ {r : ℕ} (e : r ≡ rowOf n) where

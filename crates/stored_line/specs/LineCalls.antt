@@ -37,8 +37,8 @@ unfoldable pub writeLine : LossLine → List ℕ → Wrote RecordAnswer
 writeLine line buffer = writeRecord (keepsRules line) 2 (lineBody line) buffer
 
 -- and the numbers that it is told in
-abbrev pub writtenNumbers : LossLine → List ℕ → RecordTold
-writtenNumbers line buffer = writing.numbersOf (keepsRules line) (lineBody line) buffer
+abbrev pub lineWrittenNumbers : LossLine → List ℕ → RecordTold
+lineWrittenNumbers line buffer = writing.recordNumbers (keepsRules line) (lineBody line) buffer
 
 -- ── in the paper's numbers ──
 
@@ -48,13 +48,13 @@ seven = record { refusal = 7; intervals = 0; near = pos 0; far = pos 0 }
 abbrev pub values : LossLine → LineTold
 values line = record { refusal = 0; intervals = line .intervals; near = line .near; far = line .far }
 
-unfoldable pub told : LineAnswer → LineTold
-told Refused = seven
-told (Line line) = values line
+unfoldable pub lineTold : LineAnswer → LineTold
+lineTold Refused = seven
+lineTold (Line line) = values line
 
 -- the same from the octets alone
-unfoldable pub numbersOf : List ℕ → LineTold
-numbersOf octets =
+unfoldable pub lineNumbers : List ℕ → LineTold
+lineNumbers octets =
     choose (
     (not (isRecord 2 20 octets), seven)
     ∷ (not (keepsRules (lineIn octets)), seven)
@@ -66,8 +66,8 @@ pub record LossRecords : Type 0 where
   pub rules : (line : LossLine) → (keepsRules line ≡ true) ↔ KeepsRules line
   -- 7 exactly where the head is wrong, the record is cut short, or a value breaks a rule; and beside it every value is 0
   pub refuses-7 : (octets : List ℕ) → (readLine octets ≡ Refused) ↔ (NoRecord 2 20 octets ⊎ (KeepsRules (lineIn octets) → ⊥))
-  pub zeros : (octets : List ℕ) → readLine octets ≡ Refused → numbersOf octets ≡ seven
-  pub agree : (octets : List ℕ) → told (readLine octets) ≡ numbersOf octets
+  pub zeros : (octets : List ℕ) → readLine octets ≡ Refused → lineNumbers octets ≡ seven
+  pub agree : (octets : List ℕ) → lineTold (readLine octets) ≡ lineNumbers octets
   -- a line that is written reads back, whatever stands behind it
   pub written : (line : LossLine) (rest : List ℕ) → KeepsRules line → readLine (lineRecord line ++ rest) ≡ Line line
   -- a line that is read keeps the rules, and writes back as the same 24 octets
@@ -78,6 +78,6 @@ pub record LossRecords : Type 0 where
   -- 4 exactly where a rule is broken, else 3 exactly where the buffer is shorter than 24; neither touches it
   pub refuses-4 : (line : LossLine) (buffer : List ℕ) → (writeLine line buffer .answer ≡ stored.BreaksRule) ↔ (KeepsRules line → ⊥)
   pub refuses-3 : (line : LossLine) (buffer : List ℕ) → (writeLine line buffer .answer ≡ stored.NoRoom) ↔ (KeepsRules line × (length buffer < 24))
-  pub refused : (line : LossLine) (buffer : List ℕ) → ((writing.told (writeLine line buffer .answer) .refusal ≡ 0) → ⊥) → writeLine line buffer .buffer ≡ buffer
+  pub refused : (line : LossLine) (buffer : List ℕ) → ((writing.recordTold (writeLine line buffer .answer) .refusal ≡ 0) → ⊥) → writeLine line buffer .buffer ≡ buffer
   -- any other line is written, and the octets behind its 24 stay
   pub writes : (line : LossLine) (buffer : List ℕ) → KeepsRules line → 24 ≤ length buffer → writeLine line buffer ≡ wrote (stored.Octets 24) (laid 0 (lineRecord line) buffer)

@@ -93,9 +93,9 @@ settingNumbers s = cond (valid s) (record { refusal = 0 }) (record { refusal = 4
 -- what is said of every setting
 pub record Starts : Type 0 where
   -- a valid one starts well formed, and the all-zero state is not well formed
-  pub well : (s : Settings) → Valid s → WellFormed (startOf s)
+  pub well : (t : Settings) → Valid t → WellFormed (startOf t)
   pub zero-not : WellFormed zeroState → ⊥
-  pub agree : (s : Settings) → settingTold (answerOf s) ≡ settingNumbers s
+  pub agree : (t : Settings) → settingTold (answerOf t) ≡ settingNumbers t
   -- what lies in the arrays is the answer and the state of the definitions above
   pub answers : (words names ids : List ℕ) → settingOf words names ids .answer ≡ answerOf (settingsOf words names ids)
   pub hands-out : (words names ids : List ℕ) → shown (settingOf words names ids .state) ≡ afterSetting (settingsOf words names ids)

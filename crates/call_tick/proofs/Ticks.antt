@@ -86,18 +86,15 @@ ticks = record {
   refuses-2 = λ s b. (λ a. is-2 s b (cases s b) (ap numbered a), λ n. answer-is (at-2 s b (fails (well-formed-is .well-formed-is s) n)));
   refuses-3 = λ s b. (
     λ a. is-3 s b (cases s b) (ap numbered a),
-    λ h. answer-is
-        (at-3 s b (well-formed-is .well-formed-is s .1 (h .0)) (most (h .1)) (h .2)),
+    λ h. answer-is (at-3 s b (well-formed-is .well-formed-is s .1 (h .0)) (most (h .1)) (h .2)),
   );
   quiet = λ s b. (
     λ a. is-quiet s b (cases s b) (ap numbered a),
-    λ h. answer-is
-        (at-quiet s b (well-formed-is .well-formed-is s .1 (h .0)) (h .1)),
+    λ h. answer-is (at-quiet s b (well-formed-is .well-formed-is s .1 (h .0)) (h .1)),
   );
   sends = λ s b. (
     λ a. is-sent s b (cases s b) (ap numbered a),
-    λ h. answer-is
-        (at-sent s b (well-formed-is .well-formed-is s .1 (h .0)) (most (h .1)) (h .2)),
+    λ h. answer-is (at-sent s b (well-formed-is .well-formed-is s .1 (h .0)) (most (h .1)) (h .2)),
   );
   refused = λ s b. refused s b (cases s b);
   enough = λ s b. enough s b (cases s b);

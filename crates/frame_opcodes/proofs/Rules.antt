@@ -21,19 +21,7 @@ module _ (op : ℕ) (n1 : op ≡ 1 → ⊥) (n2 : op ≡ 2 → ⊥) (n3 : op ≡
     (n42 : op ≡ 42 → ⊥) (n43 : op ≡ 43 → ⊥) (n46 : op ≡ 46 → ⊥) (n47 : op ≡ 47 → ⊥) where
   pub rule-none : ruleOf op ≡ noRule
   unfolding ruleOf choose
-  rule-none =
-      rw (
-        ne-eqb op 1 n1,
-        ne-eqb op 2 n2,
-        ne-eqb op 3 n3,
-        ne-eqb op 33 n33,
-        ne-eqb op 35 n35,
-        ne-eqb op 42 n42,
-        ne-eqb op 43 n43,
-        ne-eqb op
-            46 n46,
-        ne-eqb op 47 n47,
-      )
+  rule-none = simp ne-eqb
 
 -- two tests that agree
 agree : (a b : Bool) → Bool·beq a b ≡ true → a ≡ b
@@ -43,10 +31,11 @@ agree false true e = absurd (false≢true e)
 agree false false e = refl
 
 -- from 48 on nothing is listed
+past : (op k : ℕ) → 48 ≤ op → ltb k 48 ≡ true → op ≡ k → ⊥
+past op k h small e = omega (arith, ltb-true k 48 small)
+
 pub rule-far : (op : ℕ) → 48 ≤ op → ruleOf op ≡ noRule
-rule-far op h =
-    rule-none op (λ e. omega arith) (λ e. omega arith) (λ e. omega arith) (λ e. omega arith) (λ e. omega arith) (λ e. omega arith)
-    (λ e. omega arith) (λ e. omega arith) (λ e. omega arith)
+rule-far op h = search (rule-none, past)
 
 -- a test that all rows pass: below 48 it is computed
 pub every-row : (test : Rule → Bool) → test noRule ≡ true → everyBelow (λ op. test (ruleOf op)) 48 ≡ true → (op : ℕ)

@@ -34,8 +34,7 @@ build-shows d t [] h = tt
 build-shows d t (r ∷ rs) h = (
   onTo-read (t .sent) (sentOf d r) (h .0 d .0),
   onTo-read (t .received) (receivedOf d r) (h .0 d .1),
-  build-shows d (next d t r) rs
-      (h .1),
+  build-shows d (next d t r) rs (h .1),
 )
 
 build-goes : (d : LossEnd) (t : Truth) (rs : List Readings) → GoesOn t (build d t rs)

@@ -25,8 +25,7 @@ module _ (s : LossSession) (r : Readings) where
       rw (
         sessions .well s .1 w,
         ne-eqb (s .kept) 0 (λ e. omega (arith, e, k)),
-        ne-eqb (s .intervals) mostIntervals
-            (λ e. omega (arith, e, n)),
+        ne-eqb (s .intervals) mostIntervals (λ e. omega (arith, e, n)),
       ) (refl, refl)
   told-is (lent-5 w k n) = rw (sessions .well s .1 w, ne-eqb (s .kept) 0 (λ e. omega (arith, e, k)), n) (refl, refl)
 

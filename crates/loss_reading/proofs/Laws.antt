@@ -90,8 +90,7 @@ measured-well s r w k few = record { flag = w .flag; few = omega arith; nothing 
           arith,
           add-size (totalOf d s) (lossOn d (s .last) r),
           w .total d,
-          loss-size (sentOf d (s .last)) (sentOf d r)
-              (receivedOf d (s .last)) (receivedOf d r),
+          loss-size (sentOf d (s .last)) (sentOf d r) (receivedOf d (s .last)) (receivedOf d r),
         ))
 
 pub stays : (s : LossSession) (r : Readings) → WellFormed s → WellFormed (afterReading s r .session)

@@ -52,9 +52,9 @@ pub data RecordSaid : RecordCall → RecordLeft → Type 0 where
   settings-7-rule : (octets : List ℕ) → (Valid (settingsAt octets) → ⊥) → RecordSaid (read-settings octets) (leaving (refused 7) [])
   settings-given : (octets : List ℕ) → IsRecord 1 81 octets → Valid (settingsAt octets) → RecordSaid (read-settings octets) (leaving (settings (settingsAt octets)) [])
   -- on writing 4 comes before 3; what stands behind the 85 octets stays
-  settings-4 : (s : Settings) (b : List ℕ) → (Valid s → ⊥) → RecordSaid (write-settings s b) (leaving (refused 4) b)
-  settings-3 : (s : Settings) (b : List ℕ) → Valid s → length b < 85 → RecordSaid (write-settings s b) (leaving (refused 3) b)
-  settings-written : (s : Settings) (b : List ℕ) → Valid s → 85 ≤ length b → RecordSaid (write-settings s b) (leaving (written 85) (laid 0 (settingsRecord s) b))
+  settings-4 : (t : Settings) (b : List ℕ) → (Valid t → ⊥) → RecordSaid (write-settings t b) (leaving (refused 4) b)
+  settings-3 : (t : Settings) (b : List ℕ) → Valid t → length b < 85 → RecordSaid (write-settings t b) (leaving (refused 3) b)
+  settings-written : (t : Settings) (b : List ℕ) → Valid t → 85 ≤ length b → RecordSaid (write-settings t b) (leaving (written 85) (laid 0 (settingsRecord t) b))
   -- a loss line is kind 2, with 20 octets of body
   line-7-record : (octets : List ℕ) → NoRecord 2 20 octets → RecordSaid (read-line octets) (leaving (refused 7) [])
   line-7-rule : (octets : List ℕ) → (KeepsRules (lineIn octets) → ⊥) → RecordSaid (read-line octets) (leaving (refused 7) [])

@@ -53,8 +53,7 @@ module _ {flags : ℕ} {fixed p q : List ℕ} (f : From flags fixed p) (g : From
         same 4 2 (omega arith),
         same 54 4 (omega arith),
         same 58 4 (omega arith),
-        same 62 4
-            (omega arith),
+        same 62 4 (omega arith),
         f .flagged ∙ sym (g .flagged),
       )
 
@@ -77,8 +76,7 @@ said f =
       f .held 4 2 (omega arith),
       f .held 54 4 (omega arith),
       f .held 58 4 (omega arith),
-      f .held 62 4
-          (omega arith),
+      f .held 62 4 (omega arith),
       f .flagged,
     )
 

@@ -71,8 +71,7 @@ module _ (buffer : List ℕ) (long : 89 ≤ length buffer) where
         let r = run n (startOf t) (starts .well t v) in
         rw (
           conditions-show .answers e (r .well),
-          table-at
-              (lostAt (e .settings .count) (e .timers)) slots slot there,
+          table-at (lostAt (e .settings .count) (e .timers)) slots slot there,
           r .settings,
           lt-ltb slot (t .count) used,
           r .timer slot,

@@ -48,8 +48,7 @@ answered-from (r ∷ rs) x h = go (λ z k. answered-from rs z k)
         let few : x .intervals < mostIntervals = omega (arith, h .fits, n) in
         let e = reading-measured x r v n (λ q. omega (arith, few, q)) in (
           rw e (measured (lossOn near (x .last) r) (lossOn far (x .last) r)),
-          again (afterReading x r .session)
-              (record { fine = stays x r (h .fine); fits = rw e (omega (arith, h .fits, n)) }),
+          again (afterReading x r .session) (record { fine = stays x r (h .fine); fits = rw e (omega (arith, h .fits, n)) }),
         ))
         (known (eqb (x .kept) 0))
 

@@ -51,8 +51,8 @@ pub record Demand2 (B : Box) : Type 0 where
   pub ccm : (s : State) (b : List ℕ) (n : ℕ) → InMemory s → B s (tick b) .answer ≡ written n → (n ≡ 89) × CcmSent s (B s (tick b) .buffer)
   pub lmm : (s : State) (b : List ℕ) (n : ℕ) → InMemory s → B s (send-LMM b) .answer ≡ written n
       → (n ≡ 31) × LmmBack (s .settings .losspeer) (s .settings .own) (s .settings .level) (s .sent) (part 0 31 (B s (send-LMM b) .buffer))
-  pub dmm : (s : State) (t : Stamp) (b : List ℕ) (n : ℕ) → InMemory s → Wire t → B s (send-DMM t b) .answer ≡ written n
-      → (n ≡ 51) × DmmBack (s .settings .losspeer) (s .settings .own) (s .settings .level) t (part 0 51 (B s (send-DMM t b) .buffer))
+  pub dmm : (s : State) (x : Stamp) (b : List ℕ) (n : ℕ) → InMemory s → Wire x → B s (send-DMM x b) .answer ≡ written n
+      → (n ≡ 51) × DmmBack (s .settings .losspeer) (s .settings .own) (s .settings .level) x (part 0 51 (B s (send-DMM x b) .buffer))
   pub reply : (s : State) (a : Arrival) (octets : List ℕ) → InMemory s → OnWire (frame a) → OwnLevel s a → Sound s a → Reply s a octets
       → length octets ≤ length (a .buffer)
       → (B s (frame a) .answer ≡ written (length octets)) × ReplyBack s a (part 0 (length octets) (B s (frame a) .buffer))

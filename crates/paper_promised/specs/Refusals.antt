@@ -32,9 +32,9 @@ pub data Refusal (s : State) : Call → ℕ → Type 0 where
   lmm-2 : (b : List ℕ) → (WellFormed s → ⊥) → Refusal s (send-LMM b) 2
   lmm-3 : (b : List ℕ) → WellFormed s → length b < 31 → Refusal s (send-LMM b) 3
   -- a DMM: 2, 6, 3
-  dmm-2 : (t : Stamp) (b : List ℕ) → (WellFormed s → ⊥) → Refusal s (send-DMM t b) 2
-  dmm-6 : (t : Stamp) (b : List ℕ) → WellFormed s → (StampGood t → ⊥) → Refusal s (send-DMM t b) 6
-  dmm-3 : (t : Stamp) (b : List ℕ) → WellFormed s → StampGood t → length b < 51 → Refusal s (send-DMM t b) 3
+  dmm-2 : (x : Stamp) (b : List ℕ) → (WellFormed s → ⊥) → Refusal s (send-DMM x b) 2
+  dmm-6 : (x : Stamp) (b : List ℕ) → WellFormed s → (StampGood x → ⊥) → Refusal s (send-DMM x b) 6
+  dmm-3 : (x : Stamp) (b : List ℕ) → WellFormed s → StampGood x → length b < 51 → Refusal s (send-DMM x b) 3
   -- a new setting
   setting-4 : (t : Settings) → (Valid t → ⊥) → Refusal s (new-setting t) 4
   -- conditions

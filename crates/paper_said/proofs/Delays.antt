@@ -143,6 +143,5 @@ module _ (a : Arrival) where
       delay-all-D8 h =
           rw (
             not-bad-useful n,
-            untrue (every held (formed (txf a) (rxf a) (txb a) (a .receive)))
-                (λ e. let t = all-held e in h (t .0) (t .1) (t .2)),
+            untrue (every held (formed (txf a) (rxf a) (txb a) (a .receive))) (λ e. let t = all-held e in h (t .0) (t .1) (t .2)),
           )

@@ -57,8 +57,7 @@ module _ (s : State) (a : Arrival) where
       counts l ∙ rw (
         session-well l,
         ne-eqb (s .session .kept) 0 (λ z. omega arith),
-        ne-eqb (s .session .intervals) mostIntervals
-            (λ z. omega arith),
+        ne-eqb (s .session .intervals) mostIntervals (λ z. omega arith),
       )
 
   pub full : taken.LossReply s a → s .session .kept ≡ 1 → s .session .intervals ≡ mostIntervals

@@ -62,8 +62,7 @@ module _ (s : State) (a : Arrival) where
     request.Loopback,
     (
       left s a w _ (handles s a w q 3 (Codes.lbm (flagsOf (pdu a)) e)),
-      there (w .oam) q 4
-          (ap (λ (x : ℕ). ruleOf x .least) e),
+      there (w .oam) q 4 (ap (λ (x : ℕ). ruleOf x .least) e),
       refl,
     ),
   )
@@ -71,8 +70,7 @@ module _ (s : State) (a : Arrival) where
     request.Loss,
     (
       left s a w _ (handles s a w q 43 (Codes.lmm (flagsOf (pdu a)) e)),
-      there (w .oam) q 12
-          (ap (λ (x : ℕ). ruleOf x .least) e),
+      there (w .oam) q 12 (ap (λ (x : ℕ). ruleOf x .least) e),
       refl,
     ),
   )
@@ -80,8 +78,7 @@ module _ (s : State) (a : Arrival) where
     request.Delay,
     (
       left s a w _ (handles s a w q 47 (Codes.dmm (flagsOf (pdu a)) e)),
-      there (w .oam) q 32
-          (ap (λ (x : ℕ). ruleOf x .least) e),
+      there (w .oam) q 32 (ap (λ (x : ℕ). ruleOf x .least) e),
       refl,
     ),
   )

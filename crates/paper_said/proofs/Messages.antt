@@ -89,8 +89,7 @@ module _ (f : List ℕ) (long : 14 ≤ length f) (most : length f ≤ 1514) (oam
     cut-off c =
         rw (
           seek-tlvs f 0 (startOf (pduOf f)) (frame-oam f long most oam ∙ pdu-tlvs (pduOf f) four k h),
-          whole-cut
-              (walkFrom 0 (startOf (pduOf f)) (pduOf f)) (walkFrom 0 (startOf (pduOf f)) (pduOf f)) c,
+          whole-cut (walkFrom 0 (startOf (pduOf f)) (pduOf f)) (walkFrom 0 (startOf (pduOf f)) (pduOf f)) c,
         )
 
     pub judged : isCut (walkFrom 0 (startOf (pduOf f)) (pduOf f)) ≡ false → messageOf f ≡ judgedOf (opcodeOf (pduOf f)) (flagsOf (pduOf f))

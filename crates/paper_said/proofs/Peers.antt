@@ -71,8 +71,7 @@ module _ (s : State) (v : Valid (s .settings)) where
       signal-mep n =
           rw (
             same-is (megIn p) (s .settings .meg) .1 m,
-            le-leb (length (usedPeers (s .settings))) (slotOf (s .settings) p)
-                (not-found (ccmIn p .mep) n),
+            le-leb (length (usedPeers (s .settings))) (slotOf (s .settings) p) (not-found (ccmIn p .mep) n),
           )
 
       module _ (k : ℕ) (at : PeerAt s k (ccmIn p .mep)) where
@@ -88,8 +87,7 @@ module _ (s : State) (v : Valid (s .settings)) where
             rw (
               same-is (megIn p) (s .settings .meg) .1 m,
               lt-leb (length (usedPeers (s .settings))) (slotOf (s .settings) p) inside,
-              eq-eqb
-                  (ccmIn p .period) (s .settings .period) e,
+              eq-eqb (ccmIn p .period) (s .settings .period) e,
             ) (ap (λ (j : ℕ). Heard j (ccmIn p .rdi)) slot-is)
 
         pub signal-period : (ccmIn p .period ≡ s .settings .period → ⊥) → ccmSignal (s .settings) p ≡ UnexpectedPeriod k (ccmIn p .rdi)
@@ -98,6 +96,5 @@ module _ (s : State) (v : Valid (s .settings)) where
             rw (
               same-is (megIn p) (s .settings .meg) .1 m,
               lt-leb (length (usedPeers (s .settings))) (slotOf (s .settings) p) inside,
-              ne-eqb
-                  (ccmIn p .period) (s .settings .period) e,
+              ne-eqb (ccmIn p .period) (s .settings .period) e,
             ) (ap (λ (j : ℕ). UnexpectedPeriod j (ccmIn p .rdi)) slot-is)

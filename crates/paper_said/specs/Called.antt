@@ -37,10 +37,10 @@ pub data Called (s : State) : Call → Outcome → Type 0 where
   lmm-2 : (b : List ℕ) → (WellFormed s → ⊥) → Called s (send-LMM b) (leaves (refused 2) s b)
   lmm-3 : (b : List ℕ) → WellFormed s → length b < 31 → Called s (send-LMM b) (leaves (refused 3) s b)
   lmm-sends : (b : List ℕ) → WellFormed s → 31 ≤ length b → Called s (send-LMM b) (leaves (written 31) s (laid 0 (lmmFrom s) b))
-  dmm-2 : (t : Stamp) (b : List ℕ) → (WellFormed s → ⊥) → Called s (send-DMM t b) (leaves (refused 2) s b)
-  dmm-6 : (t : Stamp) (b : List ℕ) → WellFormed s → (StampGood t → ⊥) → Called s (send-DMM t b) (leaves (refused 6) s b)
-  dmm-3 : (t : Stamp) (b : List ℕ) → WellFormed s → StampGood t → length b < 51 → Called s (send-DMM t b) (leaves (refused 3) s b)
-  dmm-sends : (t : Stamp) (b : List ℕ) → WellFormed s → StampGood t → 51 ≤ length b → Called s (send-DMM t b) (leaves (written 51) s (laid 0 (dmmFrom s t) b))
+  dmm-2 : (x : Stamp) (b : List ℕ) → (WellFormed s → ⊥) → Called s (send-DMM x b) (leaves (refused 2) s b)
+  dmm-6 : (x : Stamp) (b : List ℕ) → WellFormed s → (StampGood x → ⊥) → Called s (send-DMM x b) (leaves (refused 6) s b)
+  dmm-3 : (x : Stamp) (b : List ℕ) → WellFormed s → StampGood x → length b < 51 → Called s (send-DMM x b) (leaves (refused 3) s b)
+  dmm-sends : (x : Stamp) (b : List ℕ) → WellFormed s → StampGood x → 51 ≤ length b → Called s (send-DMM x b) (leaves (written 51) s (laid 0 (dmmFrom s x) b))
   -- ── a new setting, whatever state there was before ──
   -- 4: an all-zero state is handed out, and what lies with the caller stays
   setting-4 : (t : Settings) (zero : State) → (Valid t → ⊥) → AllZero zero → Called s (new-setting t) (hands-out (refused 4) s zero)

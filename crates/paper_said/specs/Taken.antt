@@ -48,9 +48,9 @@ pub record DelayReply (s : State) (a : Arrival) : Type 0 where
 -- ── delays ──
 
 -- a stamp of zeros is none
-pub record NotGiven (t : Stamp) : Type 0 where
-  pub seconds : t .seconds ≡ 0
-  pub nanoseconds : t .nanoseconds ≡ 0
+pub record NotGiven (x : Stamp) : Type 0 where
+  pub seconds : x .seconds ≡ 0
+  pub nanoseconds : x .nanoseconds ≡ 0
 
 abbrev pub txf : Arrival → Stamp
 txf a = delayIn (pdu a) .txtimestampf

@@ -24,7 +24,7 @@ use Rattle.paper_loss.specs.Demand3.{Demand3}
 use Rattle.paper_wrong_boxes.specs.Wrong.{timed, halved, halves}
 use Rattle.paper_loss.proofs.Same.{counted-to}
 use Rattle.paper_wrong_boxes.proofs.Frames.{service, service-wire, service-counted, frame-no-setting}
-use Rattle.paper_wrong_boxes.proofs.Replies.{differ}
+use Rattle.base_laws.proofs.Tests.{differ}
 
 -- ── two service frames ──
 

@@ -1,5 +1,4 @@
 -- Boxes that miscount replies, refuted by a run of one reply and by a run of two. Assumes nothing.
-use Prim.Native.Nat.{ℕ, suc, _+_}
 use mathlib.Core.Path.{_≡_, refl, sym, ap, _∙_}
 use mathlib.Core.List.{[], _∷_}
 use native.Mathlib.Omega.{arith}
@@ -22,15 +21,13 @@ use Rattle.paper_said.specs.Ours.{ours}
 use Rattle.paper_said.proofs.Follows.{ours-follows}
 use Rattle.paper_promised.proofs.Kept.{first-well}
 use Rattle.paper_promised.proofs.Example.{start, well}
+use Rattle.base_laws.proofs.Tests.{differ}
 use Rattle.paper_loss.specs.Runs.{Each, none, next}
 use Rattle.paper_loss.specs.Replies.{repliesIn, loss, SinceClear}
 use Rattle.paper_loss.specs.Demand3.{Demand3}
 use Rattle.paper_wrong_boxes.specs.Wrong.{repeated, repeats, invents, lingers}
 use Rattle.paper_loss.proofs.Same.{reply-to}
 use Rattle.paper_wrong_boxes.proofs.Frames.{lmr, lmr-wire, lmr-good, replies, lmr-is, frame-no-setting, frame-no-clear}
-
-pub differ : (n m k : ℕ) → n ≡ m → n ≡ m + suc k → ⊥
-differ n m k e f = omega arith
 
 -- one reply
 one-reply : SinceClear 0 start (frame lmr ∷ []) (replies ∷ [])

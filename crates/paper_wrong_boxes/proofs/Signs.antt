@@ -1,5 +1,5 @@
 -- A box that drops the sign of a loss, refuted by a reply, a service frame and a reply. Assumes nothing.
-use Prim.Native.Nat.{ℕ, _-_, _≤_}
+use Prim.Native.Nat.{ℕ}
 use mathlib.Core.Path.{_≡_, refl, sym, ap, _∙_}
 use mathlib.Core.List.{List, [], _∷_}
 use native.Mathlib.Omega.{arith}
@@ -7,7 +7,7 @@ use lib.IntN.{ℤ, pos, negsuc}
 use Rattle.base_laws.specs.Lists.{part}
 use Rattle.base_numbers.specs.Numbers.{number, numberLowestFirst}
 use Rattle.loss_session.specs.Session.{near}
-use Rattle.loss_account.specs.Account.{Truth, Grows, losses}
+use Rattle.loss_account.specs.Account.{Truth, losses}
 use Rattle.state_view.specs.State.{State}
 use Rattle.state_view.specs.Changed.{put}
 use Rattle.state_view.specs.Changed as word
@@ -25,7 +25,9 @@ use Rattle.paper_wrong_boxes.specs.Wrong.{signed-off, signless}
 use Rattle.paper_loss.proofs.Same.{reply-to}
 use Rattle.paper_wrong_boxes.proofs.Frames.{lmr, service, lmr-wire, service-wire, lmr-good, service-counted, replies, lmr-is}
 use Rattle.paper_wrong_boxes.proofs.Frames.{frame-no-setting, frame-no-clear}
-use Rattle.paper_wrong_boxes.proofs.Replies.{differ, kept, kept-well, first-reply}
+use Rattle.base_laws.proofs.Tests.{differ}
+use Rattle.loss_account.proofs.Refuted.{grows}
+use Rattle.paper_wrong_boxes.proofs.Replies.{kept, kept-well, first-reply}
 use Rattle.paper_wrong_boxes.proofs.Counts.{service-left}
 
 -- ── a reply, a service frame, a reply ──
@@ -84,9 +86,6 @@ three-calls = record {
 
 abbrev truth : ℕ → ℕ → Truth
 truth x y = record { sent = x; received = y }
-
-grows : (a b : ℕ) → a ≤ b → b - a ≤ 4294967295 → Grows a b
-grows a b h k = record { rises = h; small = omega arith }
 
 -- nothing sent, one received: the loss is -1, and it says 4,294,967,295
 pub signless-out : Demand3 signless → ⊥

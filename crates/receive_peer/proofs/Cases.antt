@@ -35,8 +35,7 @@ module _ (t : Settings) (p : List ℕ) (same-found : Bool) (m : same-found ≡ s
           rw (
             sym m ∙ e,
             lt-leb (length (usedPeers t)) (slotOf t p) (rw (← at, ← u) h),
-            ne-eqb (ccmIn p .period) (t .period)
-                (λ k. n (c ∙ k)),
+            ne-eqb (ccmIn p .period) (t .period) (λ k. n (c ∙ k)),
             at,
             g,
           )
@@ -47,8 +46,7 @@ module _ (t : Settings) (p : List ℕ) (same-found : Bool) (m : same-found ≡ s
           rw (
             sym m ∙ e,
             lt-leb (length (usedPeers t)) (slotOf t p) (rw (← at, ← u) h),
-            eq-eqb (ccmIn p .period) (t .period)
-                (sym c ∙ n),
+            eq-eqb (ccmIn p .period) (t .period) (sym c ∙ n),
             at,
             g,
           )

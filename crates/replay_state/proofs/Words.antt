@@ -73,8 +73,7 @@ module _ (n : ℕ) where
         more,
         part-drop n 0 (n * k) octets,
         e,
-        part-append 0 n
-            (n * k) octets,
+        part-append 0 n (n * k) octets,
         same,
       )
 

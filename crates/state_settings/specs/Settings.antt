@@ -87,8 +87,8 @@ abbrev pub lentSettings : Lent → Lent → Lent → Settings
 lentSettings set names ids = settingsOf (now (set .entry)) (now (names .entry)) (now (ids .entry))
 
 -- settings of n slots have the lengths in which they are handed over
-pub record Shaped (n : ℕ) (s : Settings) : Type 0 where
-  pub own : length (s .own) ≡ addressOctets
-  pub losspeer : length (s .losspeer) ≡ addressOctets
-  pub meg : length (s .meg) ≡ megOctets
-  pub ids : length (s .ids) ≡ n
+pub record Shaped (n : ℕ) (t : Settings) : Type 0 where
+  pub own : length (t .own) ≡ addressOctets
+  pub losspeer : length (t .losspeer) ≡ addressOctets
+  pub meg : length (t .meg) ≡ megOctets
+  pub ids : length (t .ids) ≡ n

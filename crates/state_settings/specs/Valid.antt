@@ -22,22 +22,22 @@ pub record IsMepId (id : ℕ) : Type 0 where
 abbrev pub groupBit : List ℕ → ℕ
 groupBit address = getD address 0 0 % 2
 
-pub record Valid (s : Settings) : Type 0 where
-  pub level : s .level ≤ 7
-  pub mep : IsMepId (s .mep)
-  pub some-period : 1 ≤ s .period
-  pub period : s .period ≤ 7
+pub record Valid (t : Settings) : Type 0 where
+  pub level : t .level ≤ 7
+  pub mep : IsMepId (t .mep)
+  pub some-period : 1 ≤ t .period
+  pub period : t .period ≤ 7
   -- at least one peer, and a slot for each: the array has eight
-  pub some-peer : 1 ≤ s .count
-  pub slots : s .count ≤ length (s .ids)
-  pub own : groupBit (s .own) ≡ 0
-  pub losspeer : groupBit (s .losspeer) ≡ 0
-  pub differ : s .own ≡ s .losspeer → ⊥
+  pub some-peer : 1 ≤ t .count
+  pub slots : t .count ≤ length (t .ids)
+  pub own : groupBit (t .own) ≡ 0
+  pub losspeer : groupBit (t .losspeer) ≡ 0
+  pub differ : t .own ≡ t .losspeer → ⊥
   -- a used slot holds a MEP ID other than ours, and no other slot holds the same; an unused one holds 0
-  pub used : (i : ℕ) → i < s .count → IsMepId (getD (s .ids) i 0)
-  pub others : (i : ℕ) → i < s .count → getD (s .ids) i 0 ≡ s .mep → ⊥
-  pub distinct : (i j : ℕ) → i < j → j < s .count → getD (s .ids) i 0 ≡ getD (s .ids) j 0 → ⊥
-  pub unused : (i : ℕ) → s .count ≤ i → getD (s .ids) i 0 ≡ 0
+  pub used : (i : ℕ) → i < t .count → IsMepId (getD (t .ids) i 0)
+  pub others : (i : ℕ) → i < t .count → getD (t .ids) i 0 ≡ t .mep → ⊥
+  pub distinct : (i j : ℕ) → i < j → j < t .count → getD (t .ids) i 0 ≡ getD (t .ids) j 0 → ⊥
+  pub unused : (i : ℕ) → t .count ≤ i → getD (t .ids) i 0 ≡ 0
 
 -- ── what is tested ──
 
@@ -49,9 +49,9 @@ abbrev pub addressesGood : List ℕ → List ℕ → Bool
 addressesGood own losspeer = eqb (groupBit own) 0 && eqb (groupBit losspeer) 0 && not (same own losspeer)
 
 unfoldable pub valid : Settings → Bool
-valid s = numbersGood (s .level) (s .mep) (s .period) (s .count) && (addressesGood (s .own) (s .losspeer) && peersGood (s .count) (s .mep) (s .ids))
+valid t = numbersGood (t .level) (t .mep) (t .period) (t .count) && (addressesGood (t .own) (t .losspeer) && peersGood (t .count) (t .mep) (t .ids))
 
 -- the test holds exactly where the rules do; and of valid settings, as they are handed over, the peers are 1 to 8
 pub record ValidIs : Type 0 where
-  pub valid-is : (s : Settings) → (valid s ≡ true) ↔ Valid s
-  pub peers : (s : Settings) → Shaped slots s → Valid s → (1 ≤ s .count) × (s .count ≤ 8)
+  pub valid-is : (t : Settings) → (valid t ≡ true) ↔ Valid t
+  pub peers : (t : Settings) → Shaped slots t → Valid t → (1 ≤ t .count) × (t .count ≤ 8)

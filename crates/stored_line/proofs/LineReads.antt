@@ -128,8 +128,7 @@ module _ (octets : List ℕ) where
       rw (
         records .front-alone 2 20 octets rest h,
         part-front 4 8 octets rest (omega arith),
-        part-front 12 8 octets rest
-            (omega arith),
+        part-front 12 8 octets rest (omega arith),
         part-front 20 4 octets rest (omega arith),
       )
 

@@ -143,13 +143,11 @@ pub writing : Writes
 writing = record {
   refuses-4 = λ good kind body buffer. (
     only-4 good kind body buffer (way good kind body buffer),
-    λ h. at-4 good kind body buffer
-        (breaking good body h),
+    λ h. at-4 good kind body buffer (breaking good body h),
   );
   refuses-3 = λ good kind body buffer. (
     only-3 good kind body buffer (way good kind body buffer),
-    λ h. at-3 good kind body buffer
-        (kept good body (h .0) (h .1)) (h .2),
+    λ h. at-3 good kind body buffer (kept good body (h .0) (h .1)) (h .2),
   );
   refused = λ good kind body buffer. untouched good kind body buffer (way good kind body buffer);
   writes = λ kind body buffer h k. sym (ended-written true kind body buffer (kept true body refl h) k refl);

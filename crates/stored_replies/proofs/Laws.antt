@@ -59,8 +59,7 @@ replies-front (suc n) octets rest h =
     (rw (
       part-front 0 4 octets rest (omega arith),
       part-front 4 4 octets rest (omega arith),
-      part-front 8 4 octets rest
-          (omega arith),
+      part-front 8 4 octets rest (omega arith),
       part-front 12 4 octets rest (omega arith),
     ))
     (ap (repliesIn n) (drop-append-le 16 octets rest (omega arith))

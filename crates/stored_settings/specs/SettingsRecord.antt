@@ -31,7 +31,7 @@ recordSize = 4 + bodySize
 
 -- the record of settings
 abbrev pub settingsRecord : Settings → List ℕ
-settingsRecord s = recordOf 1 (settingsBody s)
+settingsRecord t = recordOf 1 (settingsBody t)
 
 -- the settings in the octets of a record, behind the four of its head
 abbrev pub settingsAt : List ℕ → Settings
@@ -60,18 +60,18 @@ readSettings octets =
 
 -- the record of the settings, if they keep the rules
 unfoldable pub writeSettings : Settings → List ℕ → Wrote RecordAnswer
-writeSettings s buffer = writeRecord (valid s) 1 (settingsBody s) buffer
+writeSettings t buffer = writeRecord (valid t) 1 (settingsBody t) buffer
 
 -- and the numbers that it is told in
 abbrev pub settingsWrittenNumbers : Settings → List ℕ → RecordTold
-settingsWrittenNumbers s buffer = recordNumbers (valid s) (settingsBody s) buffer
+settingsWrittenNumbers t buffer = recordNumbers (valid t) (settingsBody t) buffer
 
 -- what is said of every record of settings
 pub record SettingsRecords : Type 0 where
   -- its length field holds 83
   pub length-is : 2 + bodySize ≡ 83
   -- no number of valid settings is too large for its field
-  pub fits : (s : Settings) → Valid s → Shaped slots s → FieldsHold s
+  pub fits : (t : Settings) → Valid t → Shaped slots t → FieldsHold t
   -- settings that a body holds, valid or not, are read off their arrays as they stand
   pub taken : (body : List ℕ) → bodySize ≤ length body → settingsRead (given (settingsIn slots body)) ≡ settingsIn slots body
   -- 7 exactly where the head is wrong, the record is cut short, or the settings break a rule; and beside it every value is 0
@@ -81,9 +81,9 @@ pub record SettingsRecords : Type 0 where
   pub gives : (octets : List ℕ) → IsRecord 1 bodySize octets → Valid (settingsAt octets)
       → (readSettings octets .refusal ≡ 0) × (settingsRead (readSettings octets) ≡ settingsAt octets)
   -- settings that are written read back, whatever stands behind them, and so from the buffer that they are written into
-  pub written : (s : Settings) (rest : List ℕ) → Valid s → Shaped slots s
-      → (readSettings (settingsRecord s ++ rest) .refusal ≡ 0) × (settingsRead (readSettings (settingsRecord s ++ rest)) ≡ s)
-  pub back : (s : Settings) (buffer : List ℕ) → Valid s → Shaped slots s → recordSize ≤ length buffer → settingsRead (readSettings (writeSettings s buffer .buffer)) ≡ s
+  pub written : (t : Settings) (rest : List ℕ) → Valid t → Shaped slots t
+      → (readSettings (settingsRecord t ++ rest) .refusal ≡ 0) × (settingsRead (readSettings (settingsRecord t ++ rest)) ≡ t)
+  pub back : (t : Settings) (buffer : List ℕ) → Valid t → Shaped slots t → recordSize ≤ length buffer → settingsRead (readSettings (writeSettings t buffer .buffer)) ≡ t
   -- settings that are read keep the rules, and write back as the same octets
   pub kept : (octets : List ℕ) → readSettings octets .refusal ≡ 0 → Valid (settingsRead (readSettings octets))
   pub again : (octets : List ℕ) → Octets octets → readSettings octets .refusal ≡ 0
@@ -91,10 +91,10 @@ pub record SettingsRecords : Type 0 where
   -- what stands behind the record is not looked at
   pub front-alone : (octets rest : List ℕ) → recordSize ≤ length octets → readSettings (octets ++ rest) ≡ readSettings octets
   -- 4 exactly where a rule is broken, else 3 exactly where the buffer is shorter than the record; neither touches it
-  pub refuses-4 : (s : Settings) (buffer : List ℕ) → Shaped slots s → (writeSettings s buffer .answer ≡ stored.BreaksRule) ↔ (Valid s → ⊥)
-  pub refuses-3 : (s : Settings) (buffer : List ℕ) → Shaped slots s
-      → (writeSettings s buffer .answer ≡ stored.NoRoom) ↔ (Valid s × (length buffer < recordSize))
-  pub refused : (s : Settings) (buffer : List ℕ) → (recordTold (writeSettings s buffer .answer) .refusal ≡ 0 → ⊥) → writeSettings s buffer .buffer ≡ buffer
+  pub refuses-4 : (t : Settings) (buffer : List ℕ) → Shaped slots t → (writeSettings t buffer .answer ≡ stored.BreaksRule) ↔ (Valid t → ⊥)
+  pub refuses-3 : (t : Settings) (buffer : List ℕ) → Shaped slots t
+      → (writeSettings t buffer .answer ≡ stored.NoRoom) ↔ (Valid t × (length buffer < recordSize))
+  pub refused : (t : Settings) (buffer : List ℕ) → (recordTold (writeSettings t buffer .answer) .refusal ≡ 0 → ⊥) → writeSettings t buffer .buffer ≡ buffer
   -- any other settings are written, and the octets behind their record stay
-  pub writes : (s : Settings) (buffer : List ℕ) → Valid s → Shaped slots s → recordSize ≤ length buffer
-      → writeSettings s buffer ≡ wrote (stored.Octets recordSize) (laid 0 (settingsRecord s) buffer)
+  pub writes : (t : Settings) (buffer : List ℕ) → Valid t → Shaped slots t → recordSize ≤ length buffer
+      → writeSettings t buffer ≡ wrote (stored.Octets recordSize) (laid 0 (settingsRecord t) buffer)

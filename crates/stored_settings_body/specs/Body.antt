@@ -28,18 +28,18 @@ idsIn (suc n) octets = fieldAt 0 2 octets ∷ idsIn n (drop 2 octets)
 
 -- the fields in front of the IDs, in the paper's order
 unfoldable pub fieldsBefore : Settings → List ℕ
-fieldsBefore s =
-    field 1 (s .level)
-    ++ field 2 (s .mep)
-    ++ s .own
-    ++ field 1 (s .period)
-    ++ s .meg
-    ++ s .losspeer
-    ++ field 1 (s .count)
+fieldsBefore t =
+    field 1 (t .level)
+    ++ field 2 (t .mep)
+    ++ t .own
+    ++ field 1 (t .period)
+    ++ t .meg
+    ++ t .losspeer
+    ++ field 1 (t .count)
 
 -- the body of settings
 unfoldable pub settingsBody : Settings → List ℕ
-settingsBody s = fieldsBefore s ++ idsOctets (s .ids)
+settingsBody t = fieldsBefore t ++ idsOctets (t .ids)
 
 -- where the IDs begin, and how many octets a body with n slots has
 abbrev pub idsPlace : ℕ
@@ -64,12 +64,12 @@ settingsIn n body = record {
 -- ── what is meant ──
 
 -- each number fits in the octets of its field
-pub record FieldsHold (s : Settings) : Type 0 where
-  pub level : s .level < 2 ^ 8
-  pub mep : s .mep < 2 ^ 16
-  pub period : s .period < 2 ^ 8
-  pub count : s .count < 2 ^ 8
-  pub ids : (i : ℕ) → getD (s .ids) i 0 < 2 ^ 16
+pub record FieldsHold (t : Settings) : Type 0 where
+  pub level : t .level < 2 ^ 8
+  pub mep : t .mep < 2 ^ 16
+  pub period : t .period < 2 ^ 8
+  pub count : t .count < 2 ^ 8
+  pub ids : (i : ℕ) → getD (t .ids) i 0 < 2 ^ 16
 
 -- what is said of every body, for any number of slots
 pub record Bodies : Type 0 where
@@ -79,8 +79,8 @@ pub record Bodies : Type 0 where
   pub ids-back : (ids : List ℕ) → ((i : ℕ) → getD ids i 0 < 2 ^ 16) → idsIn (length ids) (idsOctets ids) ≡ ids
   pub ids-again : (n : ℕ) (octets : List ℕ) → 2 * n ≤ length octets → Octets octets → idsOctets (idsIn n octets) ≡ part 0 (2 * n) octets
   -- so do settings, and a body
-  pub back : (n : ℕ) (s : Settings) → Shaped n s → FieldsHold s → settingsIn n (settingsBody s) ≡ s
+  pub back : (n : ℕ) (t : Settings) → Shaped n t → FieldsHold t → settingsIn n (settingsBody t) ≡ t
   pub again : (n : ℕ) (body : List ℕ) → length body ≡ bodyLength n → Octets body → settingsBody (settingsIn n body) ≡ body
   -- how long both are
-  pub long : (n : ℕ) (s : Settings) → Shaped n s → length (settingsBody s) ≡ bodyLength n
+  pub long : (n : ℕ) (t : Settings) → Shaped n t → length (settingsBody t) ≡ bodyLength n
   pub shaped : (n : ℕ) (body : List ℕ) → bodyLength n ≤ length body → Shaped n (settingsIn n body)

@@ -8,20 +8,20 @@ use Rattle.stored_settings_body.specs.declared.SettingsRead.{SettingsRea
 
 -- level, MEP ID, period code, peer count
 abbrev pub setOf : Settings → List ℕ
-setOf s = s .level ∷ s .mep ∷ s .period ∷ s .count ∷ []
+setOf t = t .level ∷ t .mep ∷ t .period ∷ t .count ∷ []
 
 -- own address, loss peer, MEG ID
 abbrev pub namesOf : Settings → List ℕ
-namesOf s = s .own ++ s .losspeer ++ s .meg
+namesOf t = t .own ++ t .losspeer ++ t .meg
 
 -- no refusal, and the settings as they lie in their arrays: an equation for each
 abbrev pub given : Settings → SettingsRead
-given s = record { refusal = 0; set = setOf s; names = namesOf s; ids = s .ids }
+given t = record { refusal = 0; set = setOf t; names = namesOf t; ids = t .ids }
 
 -- what is said of settings in memory, for any number of slots
 pub record Lying : Type 0 where
   -- settings of these lengths are read off as what they are
-  pub back : (n : ℕ) (s : Settings) → Shaped n s → settingsOf (setOf s) (namesOf s) (s .ids) ≡ s
+  pub back : (n : ℕ) (t : Settings) → Shaped n t → settingsOf (setOf t) (namesOf t) (t .ids) ≡ t
   -- and arrays of their lengths hold nothing else: they lie in one way
   pub again : (set names ids : List ℕ) → length set ≡ setWords → length names ≡ nameOctets
       → (setOf (settingsOf set names ids) ≡ set) × (namesOf (settingsOf set names ids) ≡ names)

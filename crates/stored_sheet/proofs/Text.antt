@@ -110,8 +110,7 @@ line-long line i n f =
       length-append (a ++ b) c,
       length-append a b,
       number-long (pos (line .intervals)) 32 i,
-      number-long
-          (line .near) 32 n,
+      number-long (line .near) 32 n,
       number-long (line .far) 10 f,
     )
 

@@ -28,8 +28,7 @@ put-below-zero-requires c κs = let s = at tie.Start (search) in
 cast-put-size : tie.Need-cast-put-size
 cast-put-size c = let s = at tie.Start (search) in (
   read-above (s .args .value) (s .fits .value) (c .before .if1 .left),
-  rw (back (s .args .value) (s .fits .value))
-      (fits-natAbs tt (s .fits .value)),
+  rw (back (s .args .value) (s .fits .value)) (fits-natAbs tt (s .fits .value)),
 )
 
 put-size-requires : tie.Need-put-size-requires

@@ -34,8 +34,7 @@ shared-slice-read-sum c = omega arith
 cast-sum : tie.Need-cast-sum Inv-loop μ-loop
 cast-sum c = omega (
   arith,
-  c .shared-slice-known .given
-      (at (tie.Start Inv-loop μ-loop) (search) .args .at + at (tie.At-loop Inv-loop μ-loop) (search) .loop .i),
+  c .shared-slice-known .given (at (tie.Start Inv-loop μ-loop) (search) .args .at + at (tie.At-loop Inv-loop μ-loop) (search) .loop .i),
 )
 
 add-sum-2 : tie.Need-add-sum-2 Inv-loop μ-loop
@@ -45,8 +44,7 @@ add-sum-2 c = let l = at (tie.At-loop Inv-loop μ-loop) (search) .loop in
     omega (
       arith,
       more-below (l .i) (l .sum) x (l .inv .1 .1) (c .shared-slice-known .given (a .at + l .i) .fits),
-      most-below (l .i + 1)
-          (omega arith),
+      most-below (l .i + 1) (omega arith),
     )
 
 add-i : tie.Need-add-i Inv-loop μ-loop

@@ -28,8 +28,7 @@ loop-holds c = (
   omega arith,
   refl,
   laid-nothing littleEndian (c .args .at) (c .args .value) (now (c .args .into)),
-  sym
-      (div-one (c .args .value)),
+  sym (div-one (c .args .value)),
 )
 
 cast-into : tie.Need-cast-into Inv-loop μ-loop

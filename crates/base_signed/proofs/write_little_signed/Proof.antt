@@ -49,8 +49,7 @@ sub-bits-2 c = rw (flipped (c .before .args .value) (c .before .fits .value) (c 
 cast-bits-2 : tie.Need-cast-bits-2 Inv-loop μ-loop
 cast-bits-2 c = (
   read-above (c .before .args .value) (c .before .fits .value) (c .if1 .left),
-  rw
-      (back (c .before .args .value) (c .before .fits .value)) (fits-natAbs tt (c .before .fits .value)),
+  rw (back (c .before .args .value) (c .before .fits .value)) (fits-natAbs tt (c .before .fits .value)),
 )
 
 loop-holds : tie.Need-loop-holds Inv-loop μ-loop

@@ -8,12 +8,10 @@ returns : tie.Need-returns
 returns c = rw (
   at tie.After-mark-lost (search) .mark-lost .ensures,
   at tie.After-flag-of (search) .flag-of .ensures,
-  at tie.After-flag-of2
-      (search) .flag-of2 .ensures,
+  at tie.After-flag-of2 (search) .flag-of2 .ensures,
   at tie.After-flag-of3 (search) .flag-of3 .ensures,
   at tie.After-flag-of4 (search) .flag-of4 .ensures,
-  at
-      tie.After-flag-of5 (search) .flag-of5 .ensures,
+  at tie.After-flag-of5 (search) .flag-of5 .ensures,
   c .flag-of6 .ensures,
 )
 

@@ -19,8 +19,7 @@ add-result c = rw (flipped (c .before .args .x) (c .before .fits .x) (c .if1 .ta
 cast-result-2 : tie.Need-cast-result-2
 cast-result-2 c = (
   read-above (c .before .args .x) (c .before .fits .x) (c .if1 .left),
-  rw (back (c .before .args .x) (c .before .fits .x))
-      (fits-natAbs tt (c .before .fits .x)),
+  rw (back (c .before .args .x) (c .before .fits .x)) (fits-natAbs tt (c .before .fits .x)),
 )
 
 returns : tie.Need-returns

@@ -55,8 +55,7 @@ returns-4 c = let a = at tie.Start (search) .args in
       ap₂ (λ (x : FrameAnswer) (y : List ℕ). ended x s y) (at tie.After-respond (search) .respond .ensures .0)
           (at tie.After-respond (search) .respond .ensures .1)
           ∙ sym (ap (carriedOut s f (a .receive) (a .transmit) o) (at tie.After-decision3 (search) .decision3 .given .1)),
-      record
-          { words = w; both = z },
+      record { words = w; both = z },
     )
 
 returns-5 : tie.Need-returns-5
@@ -69,8 +68,7 @@ returns-5 c = let a = at tie.Start (search) .args in
     let z : length (now (a .totals)) ≡ 2 = search needs in (
       ap (λ (x : FrameAnswer). ended x s o) (c .delay-answer .ensures)
           ∙ sym (ap (carriedOut s f (a .receive) (a .transmit) o) (at tie.After-decision4 (search) .decision4 .given .1)),
-      record
-          { words = w; both = z },
+      record { words = w; both = z },
     )
 
 pub carry-out-spec : {M : Type 1} → statement M

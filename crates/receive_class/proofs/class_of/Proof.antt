@@ -23,8 +23,7 @@ returns-3 c = rw (
       ∙ not-false _ (at tie.Else1 (search) .if1 .left),
   le-ltb _ _ (at tie.Else2 (search) .if2 .left),
   ← c .before .level .ensures,
-  lt-ltb _ _
-      (c .if3 .taken),
+  lt-ltb _ _ (c .if3 .taken),
 )
 
 returns-4 : tie.Need-returns-4
@@ -33,8 +32,7 @@ returns-4 c = rw (
   sym (at tie.After-is-oam (search) .is-oam .ensures)
       ∙ not-false _ (at tie.Else1 (search) .if1 .left),
   le-ltb _ _ (at tie.Else2 (search) .if2 .left),
-  ← at tie.After-level
-      (search) .level .ensures,
+  ← at tie.After-level (search) .level .ensures,
   le-ltb _ _ (c .before .if3 .left),
 ) (c .by-side .ensures)
 

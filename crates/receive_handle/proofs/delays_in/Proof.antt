@@ -8,8 +8,7 @@ returns : tie.Need-returns
 returns c = rw (
   c .measure-delay .ensures .0,
   at tie.After-stamp-at (search) .stamp-at .ensures,
-  at tie.After-stamp-at2
-      (search) .stamp-at2 .ensures,
+  at tie.After-stamp-at2 (search) .stamp-at2 .ensures,
   c .before .stamp-at3 .ensures,
 )
 

@@ -45,8 +45,7 @@ reading-in-requires c κs = let m = at tie.After-rule-of (search) .rule-of in
       arith,
       at tie.Else1 (search) .if1 .left,
       room _ (m .result) _ (m .ensures) (c .enum-told7 .given .1),
-      ap (λ (r : Rule). r .least)
-          (m .ensures),
+      ap (λ (r : Rule). r .least) (m .ensures),
     )
 
 delays-in-requires : tie.Need-delays-in-requires
@@ -56,8 +55,7 @@ delays-in-requires c κs = let m = at tie.After-rule-of (search) .rule-of in
       arith,
       at tie.Else1 (search) .if1 .left,
       room _ (m .result) _ (m .ensures) (c .enum-told9 .given .1),
-      ap (λ (r : Rule). r .least)
-          (m .ensures),
+      ap (λ (r : Rule). r .least) (m .ensures),
     )
 
 returns-2 : tie.Need-returns-2

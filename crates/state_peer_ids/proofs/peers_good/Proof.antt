@@ -31,8 +31,7 @@ returns-2 c = let a = at tie.Start (search) .args in
     rw (
       le-leb (a .count) (length (now (a .ids))) (at tie.Else1 (search) .if1 .left),
       at tie.After-ids-good (search) .ids-good .ensures,
-      at
-          tie.After-all-distinct (search) .all-distinct .ensures,
+      at tie.After-all-distinct (search) .all-distinct .ensures,
       c .all-within .ensures,
       part-rest (now (a .ids)) (a .count),
     )

@@ -4,8 +4,10 @@ use mathlib.Core.Bool.{Bool, true, false, _&&_}
 use denote.Ref.{now}
 use borrow.Author.Tests.{not-true, not-false}
 use Rattle.loss_session.specs.Session as Session
-use Rattle.state_view.specs.State.{viewOf}
-use Rattle.state_view.specs.WellFormed.{timersGood, nextGood, slotsGood, wellFormed}
+use Rattle.base_period.specs.Periods.{ticksOf}
+use Rattle.state_settings.specs.Valid.{valid}
+use Rattle.state_view.specs.State.{State, viewOf}
+use Rattle.state_view.specs.WellFormed.{ownMost, timersGood, nextGood, slotsGood, wellFormed}
 use Rattle.base_laws.proofs.Places.{at}
 use borrow.Author.Needs.{needs}
 use Rattle.state_well_formed.proofs.is_well_formed.Statement.{statement}
@@ -27,53 +29,62 @@ fourth a b c d e h k l m = rw (h, k, l, m)
 last : (a b c d e r : Bool) → a ≡ true → b ≡ true → c ≡ true → d ≡ true → r ≡ e → r ≡ (a && (b && (c && (d && e))))
 last a b c d e r h k l m n = rw (h, k, l, m, n)
 
+-- ── what each test says of the state that came in ──
+
+abbrev state : tie.Start → State
+state c = let a = c .args in
+    viewOf (now (a .set)) (now (a .names)) (now (a .ids)) (now (a .timers)) (now (a .rdi)) (now (a .run)) (now (a .totals))
+
+valid-says : (c : tie.After-is-valid) → valid (state (search) .settings) ≡ c .is-valid .result
+valid-says c = sym (c .is-valid .ensures)
+
+timers-say : (c : tie.After-timers-good) → timersGood (state (search)) (ownMost (state (search))) ≡ c .timers-good .result
+timers-say c = ap (timersGood (state (search))) (sym (at tie.After-hold-of (search) .hold-of .ensures)) ∙ sym (c .timers-good .ensures)
+
+next-says : (c : tie.After-next-good) → nextGood (state (search) .next) (ticksOf (state (search) .settings .period)) ≡ c .next-good .result
+next-says c = ap (nextGood (state (search) .next)) (sym (at tie.After-ticks-of (search) .ticks-of .ensures)) ∙ sym (c .next-good .ensures)
+
+slots-say : (c : tie.After-slots-good)
+    → (let s = state (search) in slotsGood (s .timers) (s .rdi) (s .settings .count) (ownMost s)) ≡ c .slots-good .result
+slots-say c = let s = state (search) in
+    ap (slotsGood (s .timers) (s .rdi) (s .settings .count)) (sym (at tie.After-hold-of (search) .hold-of .ensures))
+    ∙ sym (c .slots-good .ensures)
+
+-- ── past a test it held; the first that fails decides ──
+
+valid-held : (c : tie.Else1) → valid (state (search) .settings) ≡ true
+valid-held c = valid-says (search) ∙ not-false _ (c .if1 .left)
+
+timers-held : (c : tie.Else2) → timersGood (state (search)) (ownMost (state (search))) ≡ true
+timers-held c = timers-say (search) ∙ not-false _ (c .if2 .left)
+
+next-held : (c : tie.Else3) → nextGood (state (search) .next) (ticksOf (state (search) .settings .period)) ≡ true
+next-held c = next-says (search) ∙ not-false _ (c .if3 .left)
+
+slots-held : (c : tie.Else4) → (let s = state (search) in slotsGood (s .timers) (s .rdi) (s .settings .count) (ownMost s)) ≡ true
+slots-held c = slots-say (search) ∙ not-false _ (c .if4 .left)
+
 returns : tie.Need-returns
 unfolding wellFormed
-returns c = first _ _ (sym (c .before .is-valid .ensures) ∙ not-true _ (c .if1 .taken))
+returns c = first _ _ (valid-says (search) ∙ not-true _ (c .if1 .taken))
 
 returns-2 : tie.Need-returns-2
 unfolding wellFormed
-returns-2 c = let a = at tie.Start (search) .args in
-    let v = viewOf (now (a .set)) (now (a .names)) (now (a .ids)) (now (a .timers)) (now (a .rdi)) (now (a .run)) (now (a .totals)) in
-    let t = ap (timersGood v) (sym (at tie.After-hold-of (search) .hold-of .ensures)) ∙ sym (c .before .timers-good .ensures)
-    ∙ not-true _ (c .if2 .taken) in
-    second _ _ _ (sym (at tie.After-is-valid (search) .is-valid .ensures) ∙ not-false _ (at tie.Else1 (search) .if1 .left)) t
+returns-2 c = second _ _ _ (valid-held (search)) (timers-say (search) ∙ not-true _ (c .if2 .taken))
 
 returns-3 : tie.Need-returns-3
 unfolding wellFormed
-returns-3 c = let a = at tie.Start (search) .args in
-    let v = viewOf (now (a .set)) (now (a .names)) (now (a .ids)) (now (a .timers)) (now (a .rdi)) (now (a .run)) (now (a .totals)) in
-    let t = ap (timersGood v) (sym (at tie.After-hold-of (search) .hold-of .ensures))
-    ∙ sym (at tie.After-timers-good (search) .timers-good .ensures) ∙ not-false _ (at tie.Else2 (search) .if2 .left) in
-    let n = ap (nextGood (v .next)) (sym (at tie.After-ticks-of (search) .ticks-of .ensures)) ∙ sym (c .before .next-good .ensures)
-    ∙ not-true _ (c .if3 .taken) in
-    third _ _ _ _ (sym (at tie.After-is-valid (search) .is-valid .ensures) ∙ not-false _ (at tie.Else1 (search) .if1 .left)) t n
+returns-3 c = third _ _ _ _ (valid-held (search)) (timers-held (search)) (next-says (search) ∙ not-true _ (c .if3 .taken))
 
 returns-4 : tie.Need-returns-4
 unfolding wellFormed
-returns-4 c = let a = at tie.Start (search) .args in
-    let v = viewOf (now (a .set)) (now (a .names)) (now (a .ids)) (now (a .timers)) (now (a .rdi)) (now (a .run)) (now (a .totals)) in
-    let t = ap (timersGood v) (sym (at tie.After-hold-of (search) .hold-of .ensures))
-    ∙ sym (at tie.After-timers-good (search) .timers-good .ensures) ∙ not-false _ (at tie.Else2 (search) .if2 .left) in
-    let n = ap (nextGood (v .next)) (sym (at tie.After-ticks-of (search) .ticks-of .ensures))
-    ∙ sym (at tie.After-next-good (search) .next-good .ensures) ∙ not-false _ (at tie.Else3 (search) .if3 .left) in
-    let s = ap (slotsGood (v .timers) (v .rdi) (v .settings .count)) (sym (at tie.After-hold-of (search) .hold-of .ensures))
-    ∙ sym (c .before .slots-good .ensures) ∙ not-true _ (c .if4 .taken) in
-    fourth _ _ _ _ _ (sym (at tie.After-is-valid (search) .is-valid .ensures) ∙ not-false _ (at tie.Else1 (search) .if1 .left)) t n s
+returns-4 c =
+    fourth _ _ _ _ _ (valid-held (search)) (timers-held (search)) (next-held (search)) (slots-say (search) ∙ not-true _ (c .if4 .taken))
 
 returns-5 : tie.Need-returns-5
 unfolding wellFormed
-returns-5 c = let a = at tie.Start (search) .args in
-    let v = viewOf (now (a .set)) (now (a .names)) (now (a .ids)) (now (a .timers)) (now (a .rdi)) (now (a .run)) (now (a .totals)) in
-    let t = ap (timersGood v) (sym (at tie.After-hold-of (search) .hold-of .ensures))
-    ∙ sym (at tie.After-timers-good (search) .timers-good .ensures) ∙ not-false _ (at tie.Else2 (search) .if2 .left) in
-    let n = ap (nextGood (v .next)) (sym (at tie.After-ticks-of (search) .ticks-of .ensures))
-    ∙ sym (at tie.After-next-good (search) .next-good .ensures) ∙ not-false _ (at tie.Else3 (search) .if3 .left) in
-    let s = ap (slotsGood (v .timers) (v .rdi) (v .settings .count)) (sym (at tie.After-hold-of (search) .hold-of .ensures))
-    ∙ sym (at tie.After-slots-good (search) .slots-good .ensures) ∙ not-false _ (at tie.Else4 (search) .if4 .left) in
-    last _ _ _ _ _ _ (sym (at tie.After-is-valid (search) .is-valid .ensures)
-    ∙ not-false _ (at tie.Else1 (search) .if1 .left)) t n s (c .well-formed .ensures
-    ∙ ap Session.wellFormed (c .before .session-of .ensures))
+returns-5 c = last _ _ _ _ _ _ (valid-held (search)) (timers-held (search)) (next-held (search)) (slots-held (search))
+    (c .well-formed .ensures ∙ ap Session.wellFormed (c .before .session-of .ensures))
 
 pub is-well-formed-spec : {M : Type 1} → statement M
 is-well-formed-spec =

@@ -43,8 +43,7 @@ loop-holds c = let a = at (tie.Start Inv-loop μ-loop) (search) .args in (
   at-start (a .session) (now (a .from)) (now (a .into)),
   refl,
   omega arith,
-  sym
-      (at (tie.After-well-formed Inv-loop μ-loop) (search) .well-formed .ensures) ∙ not-false _ (c .before .if1 .left),
+  sym (at (tie.After-well-formed Inv-loop μ-loop) (search) .well-formed .ensures) ∙ not-false _ (c .before .if1 .left),
 )
 
 returns-3 : tie.Need-returns-3 Inv-loop μ-loop
@@ -60,8 +59,7 @@ put-record-requires c κs = let t = at (tie.Else3 Inv-loop μ-loop) (search) in
     let l = at (tie.At-loop Inv-loop μ-loop) (search) .loop in
     let still = g .before .loop-test .taken in (
       turn-room (l .inv .0) (l .inv .3) (l .inv .2) still (g .answer-at .ensures) (t .if3 .left),
-      turn-kept (l .inv .0) (l .inv .3)
-          (l .inv .2) still (g .answer-at .ensures) (t .if3 .left),
+      turn-kept (l .inv .0) (l .inv .3) (l .inv .2) still (g .answer-at .ensures) (t .if3 .left),
     )
 
 loop-again : tie.Need-loop-again Inv-loop μ-loop

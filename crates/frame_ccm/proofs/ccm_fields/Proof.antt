@@ -1,9 +1,10 @@
 -- `frame_ccm::ccm_fields` meets its contract: the fields of a good CCM.
 use mathlib.Core.Path.{_≡_, refl, sym, ap, _∙_}
 use mathlib.Core.List.{List}
-use Prim.Native.Nat.{ℕ}
+use Prim.Native.Nat.{ℕ, _+_, _<_}
 use native.Mathlib.Omega.{arith}
 use denote.Ref.{now}
+use lib.ListN.{length}
 use Rattle.base_laws.specs.Tests.{choose}
 use Rattle.frame_opcodes.specs.Opcodes.{ruleOf}
 use Prim.Native.Nat.{_/_}
@@ -31,41 +32,29 @@ unfolding ccmOf
 returns c = let f = now (at tie.Start (search) .args .frame) in
     sym (is-not f refl (c .before .good-opcode .ensures) (ccmIn (pduOf f)) noCcm 1 (c .if1 .taken))
 
-shared-slice-read-flags : tie.Need-shared-slice-read-flags
+-- past the test the fixed part is there
+whole : (c : tie.After-pdu-of) → 4 + 70 < length (now (c .pdu-of .result))
 unfolding ruleOf choose
-shared-slice-read-flags c = let long = one (now (at tie.Start (search) .args .frame)) (c .before .pdu-of .ensures .0)
-    (at tie.After-good-opcode (search) .good-opcode .ensures) 1 70 (at tie.Else1 (search) .if1 .left) (omega arith) refl in
-    omega (arith, long)
+whole c = one (now (at tie.Start (search) .args .frame)) (c .pdu-of .ensures .0) (at tie.After-good-opcode (search) .good-opcode .ensures)
+    1 70 (at tie.Else1 (search) .if1 .left) (omega arith) refl
+
+shared-slice-read-flags : tie.Need-shared-slice-read-flags
+shared-slice-read-flags c = omega (arith, whole (search))
 
 read-big-requires : tie.Need-read-big-requires
-unfolding ruleOf choose
-read-big-requires c κs = let long = one (now (at tie.Start (search) .args .frame)) (c .before .pdu-of .ensures .0)
-    (at tie.After-good-opcode (search) .good-opcode .ensures) 1 70 (at tie.Else1 (search) .if1 .left) (omega arith) refl in
-    (omega arith, omega (arith, long))
+read-big-requires c κs = (omega arith, omega (arith, whole (search)))
 
 read-big-requires-2 : tie.Need-read-big-requires-2
-unfolding ruleOf choose
-read-big-requires-2 c κs = let long = one (now (at tie.Start (search) .args .frame)) (at tie.After-pdu-of (search) .pdu-of .ensures .0)
-    (at tie.After-good-opcode (search) .good-opcode .ensures) 1 70 (at tie.Else1 (search) .if1 .left) (omega arith) refl in
-    (omega arith, omega (arith, long))
+read-big-requires-2 c κs = (omega arith, omega (arith, whole (search)))
 
 read-big-requires-3 : tie.Need-read-big-requires-3
-unfolding ruleOf choose
-read-big-requires-3 c κs = let long = one (now (at tie.Start (search) .args .frame)) (at tie.After-pdu-of (search) .pdu-of .ensures .0)
-    (at tie.After-good-opcode (search) .good-opcode .ensures) 1 70 (at tie.Else1 (search) .if1 .left) (omega arith) refl in
-    (omega arith, omega (arith, long))
+read-big-requires-3 c κs = (omega arith, omega (arith, whole (search)))
 
 read-big-requires-4 : tie.Need-read-big-requires-4
-unfolding ruleOf choose
-read-big-requires-4 c κs = let long = one (now (at tie.Start (search) .args .frame)) (at tie.After-pdu-of (search) .pdu-of .ensures .0)
-    (at tie.After-good-opcode (search) .good-opcode .ensures) 1 70 (at tie.Else1 (search) .if1 .left) (omega arith) refl in
-    (omega arith, omega (arith, long))
+read-big-requires-4 c κs = (omega arith, omega (arith, whole (search)))
 
 read-big-requires-5 : tie.Need-read-big-requires-5
-unfolding ruleOf choose
-read-big-requires-5 c κs = let long = one (now (at tie.Start (search) .args .frame)) (at tie.After-pdu-of (search) .pdu-of .ensures .0)
-    (at tie.After-good-opcode (search) .good-opcode .ensures) 1 70 (at tie.Else1 (search) .if1 .left) (omega arith) refl in
-    (omega arith, omega (arith, long))
+read-big-requires-5 c κs = (omega arith, omega (arith, whole (search)))
 
 returns-2 : tie.Need-returns-2
 unfolding ccmOf

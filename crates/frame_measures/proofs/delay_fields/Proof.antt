@@ -1,9 +1,10 @@
 -- `frame_measures::delay_fields` meets its contract: the stamps of a good DMM or DMR.
 use mathlib.Core.Path.{_≡_, refl, sym, ap, _∙_}
 use mathlib.Core.List.{List}
-use Prim.Native.Nat.{ℕ}
+use Prim.Native.Nat.{ℕ, _+_, _<_}
 use native.Mathlib.Omega.{arith}
 use denote.Ref.{now}
+use lib.ListN.{length}
 use Rattle.base_laws.specs.Tests.{choose}
 use Rattle.frame_opcodes.specs.Opcodes.{ruleOf}
 use mathlib.Core.Bool.{true, false}
@@ -29,46 +30,29 @@ unfolding delayOf
 returns c = let f = now (at tie.Start (search) .args .frame) in
     sym (either f refl (c .before .good-opcode .ensures) (delayIn (pduOf f)) noDelay 47 46 true (c .if1 .taken))
 
-read-big-requires : tie.Need-read-big-requires
+-- past the test the fixed part is there
+whole : (c : tie.After-pdu-of) → 4 + 32 < length (now (c .pdu-of .result))
 unfolding ruleOf choose
-read-big-requires c κs = let long = two (now (at tie.Start (search) .args .frame)) (c .pdu-of .ensures .0)
-    (at tie.After-good-opcode (search) .good-opcode .ensures) 47 46 32 (c .before .if1 .left) (omega arith) (omega arith) refl refl in
-    (omega arith, omega (arith, long))
+whole c = two (now (at tie.Start (search) .args .frame)) (c .pdu-of .ensures .0) (at tie.After-good-opcode (search) .good-opcode .ensures)
+    47 46 32 (at tie.Else1 (search) .if1 .left) (omega arith) (omega arith) refl refl
+
+read-big-requires : tie.Need-read-big-requires
+read-big-requires c κs = (omega arith, omega (arith, whole (search)))
 
 read-big-requires-2 : tie.Need-read-big-requires-2
-unfolding ruleOf choose
-read-big-requires-2 c κs = let long = two (now (at tie.Start (search) .args .frame)) (c .before .pdu-of .ensures .0)
-    (at tie.After-good-opcode (search) .good-opcode .ensures) 47 46 32 (at tie.Else1 (search) .if1 .left) (omega arith) (omega arith) refl
-    refl in
-    (omega arith, omega (arith, long))
+read-big-requires-2 c κs = (omega arith, omega (arith, whole (search)))
 
 read-big-requires-3 : tie.Need-read-big-requires-3
-unfolding ruleOf choose
-read-big-requires-3 c κs = let long = two (now (at tie.Start (search) .args .frame)) (at tie.After-pdu-of (search) .pdu-of .ensures .0)
-    (at tie.After-good-opcode (search) .good-opcode .ensures) 47 46 32 (at tie.Else1 (search) .if1 .left) (omega arith) (omega arith) refl
-    refl in
-    (omega arith, omega (arith, long))
+read-big-requires-3 c κs = (omega arith, omega (arith, whole (search)))
 
 read-big-requires-4 : tie.Need-read-big-requires-4
-unfolding ruleOf choose
-read-big-requires-4 c κs = let long = two (now (at tie.Start (search) .args .frame)) (at tie.After-pdu-of (search) .pdu-of .ensures .0)
-    (at tie.After-good-opcode (search) .good-opcode .ensures) 47 46 32 (at tie.Else1 (search) .if1 .left) (omega arith) (omega arith) refl
-    refl in
-    (omega arith, omega (arith, long))
+read-big-requires-4 c κs = (omega arith, omega (arith, whole (search)))
 
 read-big-requires-5 : tie.Need-read-big-requires-5
-unfolding ruleOf choose
-read-big-requires-5 c κs = let long = two (now (at tie.Start (search) .args .frame)) (at tie.After-pdu-of (search) .pdu-of .ensures .0)
-    (at tie.After-good-opcode (search) .good-opcode .ensures) 47 46 32 (at tie.Else1 (search) .if1 .left) (omega arith) (omega arith) refl
-    refl in
-    (omega arith, omega (arith, long))
+read-big-requires-5 c κs = (omega arith, omega (arith, whole (search)))
 
 read-big-requires-6 : tie.Need-read-big-requires-6
-unfolding ruleOf choose
-read-big-requires-6 c κs = let long = two (now (at tie.Start (search) .args .frame)) (at tie.After-pdu-of (search) .pdu-of .ensures .0)
-    (at tie.After-good-opcode (search) .good-opcode .ensures) 47 46 32 (at tie.Else1 (search) .if1 .left) (omega arith) (omega arith) refl
-    refl in
-    (omega arith, omega (arith, long))
+read-big-requires-6 c κs = (omega arith, omega (arith, whole (search)))
 
 returns-2 : tie.Need-returns-2
 unfolding delayOf

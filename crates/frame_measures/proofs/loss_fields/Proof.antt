@@ -1,9 +1,10 @@
 -- `frame_measures::loss_fields` meets its contract: the counts of a good LMM or LMR.
 use mathlib.Core.Path.{_≡_, refl, sym, ap, _∙_}
 use mathlib.Core.List.{List}
-use Prim.Native.Nat.{ℕ}
+use Prim.Native.Nat.{ℕ, _+_, _<_}
 use native.Mathlib.Omega.{arith}
 use denote.Ref.{now}
+use lib.ListN.{length}
 use Rattle.base_laws.specs.Tests.{choose}
 use Rattle.frame_opcodes.specs.Opcodes.{ruleOf}
 use mathlib.Core.Bool.{true, false}
@@ -24,25 +25,20 @@ unfolding lossOf
 returns c = let f = now (at tie.Start (search) .args .frame) in
     sym (either f refl (c .before .good-opcode .ensures) (lossIn (pduOf f)) noLoss 43 42 true (c .if1 .taken))
 
-read-big-requires : tie.Need-read-big-requires
+-- past the test the fixed part is there
+whole : (c : tie.After-pdu-of) → 4 + 12 < length (now (c .pdu-of .result))
 unfolding ruleOf choose
-read-big-requires c κs = let long = two (now (at tie.Start (search) .args .frame)) (c .pdu-of .ensures .0)
-    (at tie.After-good-opcode (search) .good-opcode .ensures) 43 42 12 (c .before .if1 .left) (omega arith) (omega arith) refl refl in
-    (omega arith, omega (arith, long))
+whole c = two (now (at tie.Start (search) .args .frame)) (c .pdu-of .ensures .0) (at tie.After-good-opcode (search) .good-opcode .ensures)
+    43 42 12 (at tie.Else1 (search) .if1 .left) (omega arith) (omega arith) refl refl
+
+read-big-requires : tie.Need-read-big-requires
+read-big-requires c κs = (omega arith, omega (arith, whole (search)))
 
 read-big-requires-2 : tie.Need-read-big-requires-2
-unfolding ruleOf choose
-read-big-requires-2 c κs = let long = two (now (at tie.Start (search) .args .frame)) (c .before .pdu-of .ensures .0)
-    (at tie.After-good-opcode (search) .good-opcode .ensures) 43 42 12 (at tie.Else1 (search) .if1 .left) (omega arith) (omega arith) refl
-    refl in
-    (omega arith, omega (arith, long))
+read-big-requires-2 c κs = (omega arith, omega (arith, whole (search)))
 
 read-big-requires-3 : tie.Need-read-big-requires-3
-unfolding ruleOf choose
-read-big-requires-3 c κs = let long = two (now (at tie.Start (search) .args .frame)) (at tie.After-pdu-of (search) .pdu-of .ensures .0)
-    (at tie.After-good-opcode (search) .good-opcode .ensures) 43 42 12 (at tie.Else1 (search) .if1 .left) (omega arith) (omega arith) refl
-    refl in
-    (omega arith, omega (arith, long))
+read-big-requires-3 c κs = (omega arith, omega (arith, whole (search)))
 
 returns-2 : tie.Need-returns-2
 unfolding lossOf

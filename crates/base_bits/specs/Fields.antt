@@ -15,6 +15,7 @@ ccmFlags rdi code = rdi % 2 * 128 + code % 8
 abbrev pub mepId : ℕ → ℕ
 mepId field = field % 8192
 
+-- level and version, RDI and period code come back from the octet that they are put into
 pub record Fields : Type 0 where
   -- a level up to 7 and a version up to 31 come back from the first octet
   pub level-back : (level version : ℕ) → level < 8 → version < 32 → firstOctet level version / 32 ≡ level

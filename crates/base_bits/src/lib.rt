@@ -1,5 +1,6 @@
 // Bit fields of octets by shift and mask: level and version, flags, MEP ID.
-// What is promised is said in `/` and `%`.
+// The contracts are said in `/` and `%`, so that a reader can check them with pencil and paper. No function needs anything: each takes
+// the low bits of whatever it is given, so that no caller can make it write into a neighbour's bits.
 ghost use mathlib.Core.Path.{_≡_};
 ghost use Prim.Native.Nat.{_+_, _*_, _/_, _%_, _<_};
 

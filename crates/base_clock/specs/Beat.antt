@@ -23,7 +23,7 @@ counted p c other = c
 abbrev pub counterAfter : ℕ → ℕ → List Event → ℕ
 counterAfter p = after (counted p)
 
--- what is said of any period
+-- a period beats exactly on its last tick, from any count that is left
 pub record Beats : Type 0 where
   -- the counter itself: down by one, and from 1 back to the full period
   pub lowers : (p c : ℕ) → 2 ≤ c → counterAfter p c (tick ∷ []) ≡ c - 1

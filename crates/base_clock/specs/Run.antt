@@ -12,7 +12,7 @@ unfoldable pub AllGood : {S C : Type 0} → (S → C → S) → (S → C → Typ
 AllGood step Good s [] = Unit {0}
 AllGood step Good s (c ∷ cs) = Good s c × AllGood step Good (step s c) cs
 
--- what is said of every run
+-- a field that each call moves as its event says is moved so over any run
 pub record Runs : Type 1 where
   -- a run of no call leaves all as it was, one of one call does that call, and two runs, one behind the other, are one run
   pub none : {S C : Type 0} (step : S → C → S) (s : S) → after step s [] ≡ s

@@ -42,7 +42,7 @@ pub data LastSet {C : Type 0} (event : C → Event) : List C → Type 0 where
   never : (cs : List C) → NoSet (map event cs) → LastSet event cs
   last : (before : List C) (c : C) (h : ℕ) (since : List C) → event c ≡ setTo h → NoSet (map event since) → LastSet event (before ++ (c ∷ since))
 
--- what is said of any timer, whatever it held before
+-- a timer, whatever it held before, runs exactly while fewer ticks than its hold time have passed since it was last set
 pub record Times : Type 1 where
   -- n ticks lower it by n, down to 0; a call that is neither tick nor set leaves it
   pub lowered : (n t : ℕ) → timerAfter t (replicate n tick) ≡ t - n

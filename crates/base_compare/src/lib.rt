@@ -2,7 +2,7 @@
 ghost use mathlib.Core.Path.{_≡_};
 ghost use Rattle.base_laws.specs.Lists.{same};
 
-// Tells whether the two hold the same octets, as many and in the same order. It goes to the end without a way out: addresses and MEG IDs are
+// Whether the two hold the same octets, as many and in the same order. It goes to the end without a way out: addresses and MEG IDs are
 // then compared by vector instructions.
 pub fn same_octets(a: &[u8], b: &[u8]) -> bool
     ensures { λ r. ⌜ r ≡ same (now (a .entry)) (now (b .entry)) ⌝ }

@@ -35,7 +35,7 @@ pairsValue [] = []
 pairsValue (c ∷ []) = []
 pairsValue (c ∷ d ∷ text) = (digitValue c * 16 + digitValue d) ∷ pairsValue text
 
--- what is said of octets in hex
+-- two digits an octet; the octets come back from their digits; a dash for none; four octets worked
 pub record Hexes : Type 0 where
   -- two digits an octet
   pub long : (xs : List ℕ) → length (hexPairs xs) ≡ 2 * length xs

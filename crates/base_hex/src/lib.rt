@@ -1,4 +1,6 @@
 // Octets in hex, put into a line of text at a place.
+// Octets are in lower-case hex with nothing between them, and a dash is no octets. Where the text does not fit from its place to the
+// buffer's end, nothing changes and the same place is returned.
 ghost use mathlib.Core.Path.{_≡_};
 ghost use Prim.Native.Nat.{_+_, _*_, _≤_, _<_};
 ghost use lib.ListN.{length};
@@ -36,7 +38,8 @@ fn write_pairs(into: &mut [u8], at: usize, octets: &[u8])
     }
 }
 
-// Puts octets in hex at a place, `-` for no octets, and answers the place behind them; where they do not fit, nothing is touched and `at` comes back.
+// Puts octets in hex at a place, `-` for no octets, and returns the place behind them; where they do not fit, nothing changes and `at` is
+// returned.
 pub fn write_hex(into: &mut [u8], at: usize, octets: &[u8]) -> usize
     ensures { λ r. ⌜ (now (into .exit) ≡ putAt at (hexText (now (octets .entry))) (now (into .entry)))
         × (r ≡ behind at (hexText (now (octets .entry))) (now (into .entry))) ⌝ }

@@ -49,7 +49,8 @@ pub data IsSigned : List ℕ → ℤ → Type 0 where
   plain : {text : List ℕ} {n : ℕ} → IsDecimal text n → IsSigned text (pos n)
   minus : {text : List ℕ} {n : ℕ} → IsDecimal text (suc n) → IsSigned (45 ∷ text) (negsuc n)
 
--- what is said of decimal texts
+-- the text of a number is a text of it (`base_number_text.IsDecimal`, `base_number_text.IsSigned`) and the only one; the number can be
+-- read from it; its length is bounded by the number's size, 20 octets for 64 bits; 0, -1 and -2^63 worked
 pub record Decimals : Type 0 where
   -- the text is one of its number, and the only one, without a sign and with it
   pub is : (n : ℕ) → IsDecimal (digitsOf n) n

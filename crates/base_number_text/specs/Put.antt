@@ -20,7 +20,8 @@ putAt at text s = cond (fits at text s) (laid at text s) s
 unfoldable pub behind : ℕ → List ℕ → List ℕ → ℕ
 behind at text s = cond (fits at text s) (at + length text) at
 
--- what is said of a text that is put
+-- a text that fits is laid and reads back, one that does not fit leaves all as it was; the length and all other octets stay; two texts
+-- put one behind the other are one
 pub record Puts : Type 0 where
   -- where it fits it is laid, and reads back there; the place told stands right behind it
   pub laid-there : (at : ℕ) (text s : List ℕ) → at + length text ≤ length s → putAt at text s ≡ laid at text s

@@ -38,7 +38,7 @@ pub record NumberAt (o : Order) (s : List ℕ) (at n r : ℕ) : Type 0 where
   pub is : r ≡ number o (part at n s)
   pub small : r < 256 ^ n
 
--- what is said of numbers in octets, each once for both orders and every n
+-- numbers in n octets come back, each law once for both orders and every n
 pub record Numbers : Type 0 where
   -- what each order is: no octets are 0; the first of several is the highest, or the lowest
   pub nothing : (o : Order) → number o [] ≡ 0

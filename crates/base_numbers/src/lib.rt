@@ -1,11 +1,15 @@
 // Unsigned numbers in octets, on the wire and in stored records, read and written at a place. Inner: callers meet the `requires`.
+// What is written at a place reads back there, every other octet is as it was, and n octets are a number below 256^n and back. A number
+// is said of a list, in an order, and a place is the part of a list that is there: so one law serves every n, every field and both
+// orders, and big-endian is little-endian from the other end. One function reads every width up to four octets and one writes it; a wire
+// number is a 32-bit word in the code, whatever its width on the wire.
 ghost use mathlib.Core.Path.{_≡_};
 ghost use Prim.Native.Nat.{_+_, _≤_};
 ghost use lib.ListN.{length};
 ghost use Rattle.base_laws.specs.Lists.{laid};
 ghost use Rattle.base_numbers.specs.Numbers.{inOctets, littleEndian, bigEndian, NumberAt};
 
-// The number in the n octets at a place, the highest first, as on the wire.
+// The number in the n octets at a place, the highest first, as on the wire; it is below 256^n.
 pub fn read_big(from: &[u8], at: usize, n: usize) -> u32
     requires { ⌜ (n ≤ 4) × (at + n ≤ length (now from)) ⌝ }
     ensures { λ r. ⌜ NumberAt bigEndian (now (from .entry)) at n r ⌝ }
@@ -19,7 +23,7 @@ pub fn read_big(from: &[u8], at: usize, n: usize) -> u32
     sum
 }
 
-// The number in the n octets at a place, the lowest first, as in stored records.
+// The number in the n octets at a place, the lowest first, as in stored records; it is below 256^n.
 pub fn read_little(from: &[u8], at: usize, n: usize) -> u32
     requires { ⌜ (n ≤ 4) × (at + n ≤ length (now from)) ⌝ }
     ensures { λ r. ⌜ NumberAt littleEndian (now (from .entry)) at n r ⌝ }

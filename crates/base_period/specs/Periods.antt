@@ -31,7 +31,7 @@ rowOf ticks hold = record { ticks = ticks; hold = hold }
 abbrev pub periodOf : ℕ → Period
 periodOf code = rowOf (ticksOf code) (holdOf code)
 
--- what is said of every code
+-- the hold time is three and a half periods, for every code; which codes have a period; the longest
 pub record PeriodLaws : Type 0 where
   -- 3.5 periods, with no half in it
   pub hold-rule : (code : ℕ) → holdOf code * 2 ≡ ticksOf code * 7

@@ -1,4 +1,7 @@
 // The seven periods: how often a CCM, AIS or LCK is sent, and how long one holds, in ticks of 1/600 s.
+// Two tables, `base_period.ticksTable` and `base_period.holdTable`; in the code they are constants that a match names: a table indexed at
+// run time would be copied to the stack first. That a hold time times 2 is its ticks times 7, for every code, is `base_period.hold-rule`,
+// computed once over both tables.
 ghost use mathlib.Core.Path.{_≡_};
 ghost use Rattle.base_period.specs.Periods.{ticksOf, holdOf, periodOf};
 
@@ -44,7 +47,7 @@ impl Period {
 
     pub const HOLD_MIN_10: u32 = 1_260_000;
 
-    // The period of a code; no period for 0 and for all above 7.
+    // The period of a code, a row of both tables; no period, 0 and 0, for 0 and for all above 7.
     pub fn from_code(code: u32) -> Self
         ensures { λ r. ⌜ r ≡ periodOf code ⌝ }
     {

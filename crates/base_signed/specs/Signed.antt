@@ -10,7 +10,7 @@ use Rattle.base_laws.specs.Lists.{part, laid}
 use Rattle.base_octets.specs.Octets.{Octets}
 use Rattle.base_numbers.specs.Numbers.{littleEndian, number, inOctets}
 
--- what is said of signed numbers in octets
+-- signed numbers in eight octets come back, -2^63 included
 pub record SignedNumbers : Type 0 where
   -- a signed number of 64 bits, -2 ^ 63 included, comes back from the eight octets it is put into
   pub signed-back : (at : ℕ) (z : ℤ) (s : List ℕ) → at + 8 ≤ length s → SFits w64 z

@@ -1,4 +1,5 @@
 // Stamps of any content, as the wire and the caller have them: good, given. The paper, "Numbers".
+// Every crate that takes a stamp uses this one; only decisions on delays use `receive_delay`.
 ghost use mathlib.Core.Path.{_≡_};
 ghost use Rattle.base_stamp.specs.Stamps.{good, given};
 

@@ -35,7 +35,8 @@ clearTold Cleared = tellClear 0
 abbrev pub clearNumbers : State → ClearTold
 clearNumbers s = cond (wellFormed s) (tellClear 0) (tellClear 2)
 
--- what is said of every state
+-- refusal 2 exactly where it is due, and then nothing changes; else reading, intervals and totals are forgotten; nothing else ever
+-- changes; a well-formed state stays so
 pub record Clears : Type 0 where
   -- a well-formed state stays so
   pub stays : (s : State) → WellFormed s → WellFormed (clearOf s .state)

@@ -1,4 +1,6 @@
 // A clear: the loss session starts anew, and nothing else of the state changes.
+// Refusal 2 where the state is not well formed, and then nothing changes. No buffer is passed in. That nothing else ever changes,
+// whatever the answer, is `call_clear.clears`.
 ghost use mathlib.Core.List.{[]};
 ghost use mathlib.Core.Path.{_≡_};
 ghost use Rattle.base_laws.specs.Ended.{ended};
@@ -27,7 +29,7 @@ pub struct ClearTold {
     pub refusal: u32,
 }
 
-// Forgets the kept reading, the intervals and both totals.
+// Forgets the kept reading, the intervals and both totals; refusal 2 where the state is not well formed.
 pub fn clear(
     set: &Set,
     names: &Names,

@@ -59,7 +59,7 @@ conditionsOf s = cond (wellFormed s) (answered 0 (shownOf s)) (answered 2 noCond
 
 -- ── what the flags mean ──
 
--- what is said of every state
+-- refusal 2 exactly where it is due; each flag is 1 exactly where its condition is active; zeros beside a refusal
 pub record ConditionsShow : Type 0 where
   -- refusal 2 exactly where the state is not well formed; else the conditions are shown
   pub refuses-2 : (s : State) → (conditionsOf s .refusal ≡ 2) ↔ (WellFormed s → ⊥)

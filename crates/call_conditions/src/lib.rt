@@ -1,6 +1,7 @@
 // Which conditions stand, each by itself, for whoever asks.
-// The call only reads the state.
-// The answer is a struct with the refusal's number in it, and no enum: an enum that holds an array is not covered by the toolchain.
+// Refusal 2 where the state is not well formed, and then every value beside it is 0. The call only reads the state, and no buffer is
+// passed in. The answer is a struct with the refusal's number in it, and no enum, since an enum that holds an array is not covered by the
+// toolchain: so there is no `tell`.
 ghost use mathlib.Core.Path.{_≡_};
 ghost use Rattle.state_settings.specs.Settings.{slots};
 ghost use Rattle.state_view.specs.State.{before};
@@ -98,7 +99,8 @@ fn none() -> ConditionFlags
     }
 }
 
-// Tells each condition of a well-formed state; refusal 2 of any other.
+// Each condition of a well-formed state: for each slot loss of continuity and RDI, and the six others; refusal 2 and zeros of any other
+// state.
 pub fn conditions(
     set: &Set,
     names: &Names,

@@ -1,4 +1,6 @@
 // What the three calls that send are answered, a tick, send LMM and send DMM, and the same in the paper's numbers.
+// Apart from the calls, so that a number that is told wrong is tried in a crate of three matches. One struct serves all three: the
+// refusal and the length of what was written.
 ghost use mathlib.Core.Path.{_≡_};
 ghost use Rattle.call_send_answer.specs.Told.{tickTold, lmmTold, dmmTold};
 use message_parts::parts::WrittenTold;

@@ -48,7 +48,7 @@ dmmNumbers s stamp buffer =
     ∷ [])
     (tellWritten 0 dmmLength)
 
--- what is said of every state, stamp and buffer
+-- each answer exactly where its line holds and none before it does; what it leaves; 51 octets; an all-zero stamp is as good as any
 pub record SendsDmm : Type 0 where
   -- each answer exactly where its line holds and none before it
   pub refuses-2 : (s : State) (stamp : Stamp) (buffer : List ℕ) → (sendDmm s stamp buffer .answer ≡ NotWellFormed) ↔ (WellFormed s → ⊥)

@@ -1,5 +1,6 @@
 // Send DMM: the caller asks for a DMM to the loss peer, with its stamp.
-// The state is only read.
+// Refusals in this order: 2, 6, 3. The state is only read, and the buffer is left as by send LMM. An all-zero stamp is sent like any
+// other.
 ghost use mathlib.Core.Path.{_≡_};
 ghost use Rattle.base_laws.specs.Ended.{ended};
 ghost use Rattle.state_view.specs.State.{before};
@@ -19,7 +20,7 @@ use state_view::Run;
 use state_view::Totals;
 use state_well_formed::is_well_formed;
 
-// Writes a DMM with the caller's stamp.
+// Writes a DMM to the loss peer with the caller's stamp; refusal 2, 6 or 3.
 pub fn send_dmm(
     set: &Set,
     names: &Names,

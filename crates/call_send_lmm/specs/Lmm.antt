@@ -44,7 +44,7 @@ lmmNumbers s buffer =
     ∷ [])
     (tellWritten 0 lmmLength)
 
--- what is said of every state and every buffer
+-- each answer exactly where its line holds and none before it does; what it leaves; 31 octets
 pub record SendsLmm : Type 0 where
   -- each answer exactly where its line holds and none before it
   pub refuses-2 : (s : State) (buffer : List ℕ) → (sendLmm s buffer .answer ≡ NotWellFormed) ↔ (WellFormed s → ⊥)

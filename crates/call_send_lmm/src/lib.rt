@@ -1,5 +1,6 @@
 // Send LMM: the caller asks for an LMM to the loss peer, with our sent count.
-// The state is only read.
+// Refusals in this order: 2, 3. The state is only read. A refused call leaves the buffer as it was; else the message is in its first
+// octets, and every octet behind it is as it was.
 ghost use mathlib.Core.Path.{_≡_};
 ghost use Rattle.base_laws.specs.Ended.{ended};
 ghost use Rattle.state_view.specs.State.{before};
@@ -17,7 +18,7 @@ use state_view::SENT;
 use state_view::Totals;
 use state_well_formed::is_well_formed;
 
-// Writes an LMM with our sent count.
+// Writes an LMM to the loss peer with our sent count; refusal 2 or 3.
 pub fn send_lmm(
     set: &Set,
     names: &Names,

@@ -90,7 +90,8 @@ settingOf words names ids = cond (valid (settingsOf words names ids)) (startedWi
 abbrev pub settingNumbers : Settings → SettingTold
 settingNumbers s = cond (valid s) (record { refusal = 0 }) (record { refusal = 4 })
 
--- what is said of every setting
+-- a valid setting starts well formed; the all-zero state is not well formed; the answer, and the state that the returned arrays show
+-- (`state_view.shown`), are those of the setting (`call_setting.answerOf`, `call_setting.afterSetting`)
 pub record Starts : Type 0 where
   -- a valid one starts well formed, and the all-zero state is not well formed
   pub well : (t : Settings) → Valid t → WellFormed (startOf t)

@@ -1,6 +1,9 @@
 // A new setting: the state that it starts with, or the all-zero state where it is not valid; the answer, and its number.
-// Settings are lent for reading and the state is handed out by value, so that a refusal leaves all that was handed over: a box that runs is
-// not touched by a setting that breaks a rule.
+// Settings are lent for reading and the state is returned by value, so that a refusal leaves all that was passed in: a box that runs is
+// not touched by a setting that breaks a rule. Code that writes into the settings is not compiled (`tests/gate lent_written`), so no edit
+// can try that; what is tried is the relation, in `paper_said` and `paper_order`. Beside refusal 4 the state that is returned is all
+// zeros; else it has the settings as they were lent, and all the rest starts again. The contract also says that the settings have the
+// lengths of their arrays.
 ghost use mathlib.Core.Path.{_≡_};
 ghost use Rattle.base_laws.specs.Lists.{onFirst};
 ghost use Rattle.state_settings.specs.Settings.{slots, lentSettings, Shaped};
@@ -108,7 +111,7 @@ fn begin(set: &Set, names: &Names, ids: &Slots) -> Started
     }
 }
 
-// Takes settings as they lie: the state that they start with, or all zeros where they are not valid. It takes no old state.
+// Takes settings as they lie: the state that they start with, or refusal 4 and all zeros where they are not valid. It takes no old state.
 pub fn new_setting(set: &Set, names: &Names, ids: &Slots) -> Started
     ensures { λ r. ⌜ r ≡ settingOf (now (set .entry)) (now (names .entry)) (now (ids .entry)) ⌝ }
     ensures { λ r. ⌜ settingTold (r .answer) ≡ settingNumbers (lentSettings set names ids) ⌝ }

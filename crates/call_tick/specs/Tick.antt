@@ -60,7 +60,8 @@ tickNumbers s buffer =
     ∷ [])
     (tellWritten 0 ccmLength)
 
--- what is said of every state and every buffer
+-- each answer of a tick exactly where its line holds; what it leaves of state and buffer; what no tick changes; a well-formed state stays
+-- so
 pub record Ticks : Type 0 where
   -- a well-formed state stays so
   pub stays : (s : State) (buffer : List ℕ) → WellFormed s → WellFormed (tickOf s buffer .state)

@@ -1,5 +1,6 @@
 // A tick: every timer is lowered, and on the last tick of a period a CCM is sent.
-// Where its buffer is too short the tick has not passed.
+// Refusals in this order: 2; 3, on a period's last tick where the buffer is shorter than 89 octets. A refused tick has not passed: no
+// timer is lowered, and as many ticks are left to the next CCM as before. A tick that sends nothing never gives 3, whatever the buffer.
 ghost use mathlib.Core.Path.{_≡_};
 ghost use Rattle.base_laws.specs.Ended.{ended};
 ghost use Rattle.state_view.specs.State.{before, afterTick};
@@ -20,7 +21,8 @@ use state_view::Run;
 use state_view::Totals;
 use state_well_formed::is_well_formed;
 
-// Lets a tick pass, and on the last of a period writes a CCM with the conditions that stand after it.
+// Lets a tick pass, and on the last of a period writes a CCM with the conditions that are active after it: refusal 2, a tick that sends
+// nothing, refusal 3, or a tick with the CCM.
 pub fn tick(
     set: &Set,
     names: &Names,

@@ -26,7 +26,7 @@ saidOf s = record {
 unfoldable pub ccmOf : State → List ℕ
 ccmOf s = ccmOctets (s .settings .own) (s .settings .meg) (saidOf s)
 
--- what is said of every state
+-- a CCM's RDI is 1 exactly where a condition is active; it has 89 octets
 pub record CcmSays : Type 0 where
   -- its RDI is 1 exactly where a condition stands
   pub rdi : (s : State) → Shows (saidOf s .rdi) (Stands s)

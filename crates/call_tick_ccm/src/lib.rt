@@ -1,4 +1,6 @@
 // The CCM that a state sends: our own address, MEG ID and MEP ID, and RDI where any condition stands.
+// Refusal 3 where the buffer is shorter than 89 octets, and then nothing changes. Whether a CCM is due, and whether the state is well
+// formed, `call_tick` tests before. The octets have their own short proof here, which an edit of the tick's order does not repeat.
 ghost use mathlib.Core.Path.{_≡_};
 ghost use lib.ListN.{length};
 ghost use Rattle.state_view.specs.State.{before};
@@ -19,7 +21,7 @@ use state_standing::flag_of;
 use state_view::Run;
 use state_view::Totals;
 
-// Writes the CCM of a state.
+// Writes the CCM of a state, 89 octets, or gives refusal 3.
 pub fn write_own_ccm(
     set: &Set,
     names: &Names,

@@ -1,4 +1,5 @@
 // What a tick lowers: every timer one tick later, where it lies.
+// It refuses nothing: whether a tick may pass is tested before. The two loops over timers have their own short proofs here.
 ghost use mathlib.Core.Path.{_≡_};
 ghost use mathlib.Core.List.{map};
 ghost use Prim.Native.Nat.{_-_};
@@ -49,7 +50,7 @@ fn lower_running(run: &mut Run)
     }
 }
 
-// Lets a tick pass: every timer is lowered, and so many ticks are left to the next CCM.
+// Lets a tick pass: every timer above 0 is one less, so many ticks are left to the next CCM, and all else is as it was.
 pub fn pass_tick(
     set: &Set,
     names: &Names,

@@ -1,5 +1,6 @@
 // The fields of a CCM, its MEG ID among them.
-// All are 0, and the MEG ID is empty, where the frame is bad or another message; `frame_message::message_answer` tells which.
+// All are 0, and the MEG ID is empty, where the frame is bad or another message; `frame_message::message_answer` says which. No function
+// needs anything.
 ghost use mathlib.Core.Path.{_≡_};
 ghost use denote.Ref.{ptr};
 ghost use Rattle.frame_ccm.specs.Ccm.{ccmOf, megOf, megPlace};
@@ -23,7 +24,7 @@ pub struct CcmFields {
     pub rdi: u32,
 }
 
-// The fields of a CCM.
+// The fields of a CCM: sequence, MEP ID, three counts, period code and RDI.
 pub fn ccm_fields(frame: &[u8]) -> CcmFields
     ensures { λ r. ⌜ r ≡ ccmOf (now (frame .entry)) ⌝ }
 {
@@ -51,7 +52,7 @@ pub fn ccm_fields(frame: &[u8]) -> CcmFields
     }
 }
 
-// The MEG ID of a CCM, as that part of the frame; empty, at the frame's start, where there is none.
+// The MEG ID of a CCM, its 48 octets as that part of the frame; empty, at the frame's start, where there is none.
 pub fn meg_id(frame: &[u8]) -> &[u8]
     ensures { λ r. ⌜ (now r ≡ megOf (now (frame .entry))) × (ptr r ≡ megPlace (ptr (frame .entry)) (now (frame .entry))) ⌝ }
 {

@@ -1,5 +1,6 @@
 // A frame's head: its two addresses, where its PDU stands, and the PDU's level and version. Each function answers for any octets.
-// Nothing here knows of messages, settings or state. Every place behind the head is a place of the PDU.
+// Nothing here knows of messages, settings or state. Every place behind the head is a place of the PDU: `HEAD_LENGTH`, the 14 octets
+// before it, is in this file alone, and `frame_head.headLength` in one file of the definitions.
 ghost use mathlib.Core.Path.{_≡_};
 ghost use denote.Ref.{ptr};
 ghost use Rattle.frame_head.specs.Head.{headLength, destinationOf, sourceOf, pduOf, placeOrStart, levelOf, versionOf};
@@ -24,7 +25,7 @@ pub fn destination(frame: &[u8]) -> &[u8]
     &frame[0..6]
 }
 
-// The source, in the same way.
+// The source, as that part of the frame; empty, at the frame's start, where the frame is shorter than its head.
 pub fn source(frame: &[u8]) -> &[u8]
     ensures { λ r. ⌜ (now r ≡ inHead (sourceOf (now (frame .entry))) (now (frame .entry)))
         × (ptr r ≡ placeOrStart 6 (ptr (frame .entry)) (now (frame .entry))) ⌝ }
@@ -35,7 +36,7 @@ pub fn source(frame: &[u8]) -> &[u8]
     &frame[6..12]
 }
 
-// The PDU, in the same way.
+// The PDU, the octets behind the head, as that part of the frame; empty, at the frame's start, where the frame ends before them.
 pub fn pdu_of(frame: &[u8]) -> &[u8]
     ensures { λ r. ⌜ (now r ≡ pduOf (now (frame .entry))) × (ptr r ≡ placeOrStart headLength (ptr (frame .entry)) (now (frame .entry))) ⌝ }
 {

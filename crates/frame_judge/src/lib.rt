@@ -1,5 +1,6 @@
 // What stands before the TLVs of a frame: refusal 1, D1, D3 and D4, or where the TLVs start.
-// It asks nothing of its caller.
+// These tests come before the TLVs in the paper's order; D5 is the walk's. It needs nothing of its caller and answers for any octets. It
+// is a step of the reader, so its answer has no numbers of its own.
 ghost use mathlib.Core.Path.{_≡_};
 ghost use Rattle.frame_judge.specs.Judge.{judgePdu, judge};
 use base_numbers::read_big;
@@ -33,7 +34,7 @@ fn judge_pdu(pdu: &[u8]) -> Head
     Head::Tlvs(4 + offset)
 }
 
-// The same of a whole frame: refusal 1, D3 for a service frame, or what its PDU says.
+// A whole frame: refusal 1, D1, D3 or D4, whichever test fails first, or where in the PDU the TLVs start. A service frame is D3.
 pub fn judge_frame(frame: &[u8]) -> Head
     ensures { λ r. ⌜ r ≡ judge (now (frame .entry)) ⌝ }
 {

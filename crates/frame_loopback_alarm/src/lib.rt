@@ -1,5 +1,5 @@
 // The fields of loopback messages and of alarms: the transaction, the period.
-// Each is 0 where the frame is bad or another message; `frame_message::message_answer` tells which.
+// Each is 0 where the frame is bad or another message; `frame_message::message_answer` says which. No function needs anything.
 ghost use mathlib.Core.Path.{_≡_};
 ghost use Rattle.frame_loopback_alarm.specs.Fixed.{transactionOf, alarmOf};
 use base_bits::period_code_of;

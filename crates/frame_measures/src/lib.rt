@@ -1,5 +1,5 @@
 // The fields of the messages that measure: the counts of LMM and LMR, the stamps of DMM and DMR.
-// All are 0 where the frame is bad or another message; `frame_message::message_answer` tells which.
+// All are 0 where the frame is bad or another message; `frame_message::message_answer` says which. No function needs anything.
 ghost use mathlib.Core.Path.{_≡_};
 ghost use Rattle.frame_measures.specs.Measures.{lossOf, delayOf};
 use base_numbers::read_big;
@@ -23,7 +23,7 @@ pub struct DelayFields {
     pub txtimestampb: Stamp,
 }
 
-// The counts of an LMM or LMR.
+// The three counts of an LMM or LMR.
 pub fn loss_fields(frame: &[u8]) -> LossFields
     ensures { λ r. ⌜ r ≡ lossOf (now (frame .entry)) ⌝ }
 {
@@ -43,7 +43,7 @@ pub fn loss_fields(frame: &[u8]) -> LossFields
     }
 }
 
-// The stamps of a DMM or DMR, of any content.
+// The three stamps of a DMM or DMR, of any content.
 pub fn delay_fields(frame: &[u8]) -> DelayFields
     ensures { λ r. ⌜ r ≡ delayOf (now (frame .entry)) ⌝ }
 {

@@ -38,7 +38,8 @@ isBad answer.Value = false
 abbrev pub tlvsOf : List ℕ → List ℕ
 tlvsOf f = drop (startOf (pduOf f)) (pduOf f)
 
--- what is said of good frames, and of the TLVs of any
+-- the reader gives no reason exactly where a frame is good (`frame_message.Good`); its fixed part is then there; the TLVs alone decide
+-- what is read, wherever they are
 pub record GoodFrames : Type 0 where
   -- the reader gives no reason exactly where a frame is good, whatever type it is asked for
   pub read : (f : List ℕ) (kind : ℕ) → (isBad (answerOf f kind) ≡ false) ↔ Good f

@@ -34,7 +34,7 @@ messageNumbers f = behind (Reader.tlvNumbers f 0) (opcodeOf (pduOf f)) (flagsOf 
 abbrev pub goodOpcode : List ℕ → ℕ
 goodOpcode f = messageNumbers f .opcode
 
--- what is said of every frame, and of every answer
+-- for every frame the answer has the numbers of one chain; an opcode is given of a good frame alone, and is the frame's
 pub record MessageNumbers : Type 0 where
   pub agree : (f : List ℕ) → messageTold (messageOf f) ≡ messageNumbers f
   -- an opcode is told of a good frame with a good period code, and of no other; it is the frame's

@@ -23,7 +23,7 @@ pub struct MessageTold {
     pub opcode: u32,
 }
 
-// An answer in the paper's numbers.
+// An answer in the paper's numbers: refusal, drop, and the opcode of a good frame.
 pub fn tell(answer: MessageAnswer) -> MessageTold
     ensures { λ r. ⌜ r ≡ messageTold answer ⌝ }
 {

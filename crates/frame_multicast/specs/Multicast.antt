@@ -16,7 +16,7 @@ lastOf level = 0x30 + level % 8
 abbrev pub multicastOf : ℕ → List ℕ
 multicastOf level = prefix ++ (lastOf level ∷ [])
 
--- what is said of it
+-- an address has six octets, and each level its own
 pub record Multicasts : Type 0 where
   pub long : (level : ℕ) → length (multicastOf level) ≡ 6
   -- each level has its own

@@ -1,4 +1,5 @@
 // The multicast address of a level, 01-80-C2-00-00-3x: one prefix, compared on receipt and written into sent CCMs.
+// No function needs anything.
 ghost use mathlib.Core.Path.{_≡_};
 ghost use Rattle.base_laws.specs.Lists.{same};
 ghost use Rattle.frame_multicast.specs.Multicast.{multicastOf, lastOf};

@@ -35,7 +35,8 @@ ruleOf op =
     ∷ [])
     noRule
 
--- the paper's lists are laws of the one table
+-- the paper's lists of opcodes, those read, handled, good to the multicast address, requests, from the loss peer alone, and with a period
+-- code that is asked, are those of the one table
 pub record OpcodeLists : Type 0 where
   pub read : (op : ℕ) → ruleOf op .known ≡ not (absent op (1 ∷ 2 ∷ 3 ∷ 33 ∷ 35 ∷ 42 ∷ 43 ∷ 46 ∷ 47 ∷ []))
   pub handles : (op : ℕ) → ruleOf op .handled ≡ not (absent op (1 ∷ 3 ∷ 33 ∷ 35 ∷ 42 ∷ 43 ∷ 46 ∷ 47 ∷ []))

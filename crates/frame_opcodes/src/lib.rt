@@ -1,5 +1,6 @@
 // The table of opcodes: all that an opcode decides, in one row.
-// The one match on an opcode; the reader and the box read its columns.
+// The one match on an opcode; the reader and the box read its columns. It answers for any octet. The paper's lists of opcodes are laws of
+// this table, so no list can drift from another. Below the reader, so that a mistake in a row is tried without the reader's proof.
 ghost use mathlib.Core.Path.{_≡_};
 ghost use Rattle.frame_opcodes.specs.Opcodes.{ruleOf};
 
@@ -40,7 +41,8 @@ pub struct Rule {
     pub alarm: bool,
 }
 
-// The rule of an opcode.
+// The row of an opcode: who handles it, its least offset, whether it can be read and is handled, whether the multicast address is good,
+// whether it is a request, whether it comes from the loss peer alone, which period codes are good.
 pub fn rule_of(opcode: u8) -> Rule
     ensures { λ r. ⌜ r ≡ ruleOf opcode ⌝ }
 {

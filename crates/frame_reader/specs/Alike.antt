@@ -15,7 +15,8 @@ pub record Alike (f g : List ℕ) : Type 0 where
   pub offset : offsetOf (pduOf f) ≡ offsetOf (pduOf g)
   pub tlvs : drop (startOf (pduOf f)) (pduOf f) ≡ drop (startOf (pduOf g)) (pduOf g)
 
--- they read the same, asked for any type: the same answer, the same octets, at the same place
+-- addresses, level, version, flags and fixed part make no difference to the reader: asked for any type, the same answer, the same octets,
+-- at the same place
 pub record ReadAlike : Type 0 where
   pub answers : (f g : List ℕ) → Alike f g → (kind : ℕ) → answerOf f kind ≡ answerOf g kind
   pub values : (f g : List ℕ) → Alike f g → (kind : ℕ) → valueOf f kind ≡ valueOf g kind

@@ -38,7 +38,8 @@ tlvNumbers f kind =
     ∷ [])
     (tellTlv 0 0 0)
 
--- what is said of every frame, and of every answer
+-- for every frame and type the reader gives the numbers of one chain, in the paper's order; no two answers have the same numbers; type 0
+-- is never a value; beside a refusal or a drop there is no value
 pub record ReaderNumbers : Type 0 where
   -- the staged search tells the numbers of the one chain
   pub agree : (f : List ℕ) (kind : ℕ) → tlvTold (answerOf f kind) ≡ tlvNumbers f kind

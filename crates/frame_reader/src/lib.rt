@@ -1,5 +1,7 @@
 // The reader: asked for a TLV type, the value of the first such TLV as that part of the caller's frame.
-// Nothing here knows of settings or state, and no function asks anything of its caller.
+// Nothing here knows of settings or state, and no function needs anything: each answers for any octets and any type. A bad frame's number
+// is refusal 1, D1, D3, D4 or D5, whichever test fails first. An empty part alone does not say whether there is an empty value or none:
+// `frame_reader::tlv_answer` does.
 ghost use mathlib.Core.Path.{_≡_};
 ghost use denote.Ref.{ptr};
 ghost use Rattle.frame_reader_answer.specs.Told.{tlvTold};

@@ -1,4 +1,5 @@
 // What the reader answers, and why it cannot read a frame; both in the paper's numbers.
+// A bad frame's number is refusal 1, D1, D3, D4 or D5. Two matches, apart from the tests of a frame.
 ghost use mathlib.Core.Path.{_≡_};
 ghost use Rattle.frame_reader_answer.specs.Told.{badOf, tlvTold};
 

@@ -1,4 +1,6 @@
 // The search for a TLV in a frame, and D5: where the value of the first one of a type stands, or why it cannot be read.
+// The walk goes to the end first and only then for the wanted type, so that a cut behind the wanted TLV is D5 too. Both are the same
+// loop: a walk for type 0 stops at nothing but the end or a cut. No function needs anything.
 ghost use mathlib.Core.Path.{_≡_};
 ghost use Rattle.frame_seek.specs.Seek.{isCut, seekOf, Within};
 use frame_head::HEAD_LENGTH;
@@ -26,8 +28,8 @@ fn is_cut(place: Place) -> bool
     }
 }
 
-// The first TLV of a type in a frame: a reason, no such TLV, or where in the frame its value stands, for a caller who cannot be handed a part.
-// The walk to the end comes first: a cut anywhere is D5, also behind the wanted TLV.
+// The first TLV of a type in a frame: a reason, no such TLV, or where in the frame its value is and how long it is, for a caller who
+// cannot be given a part. The walk to the end comes first: a cut anywhere is D5, also behind the wanted TLV.
 pub fn seek_frame(frame: &[u8], kind: u8) -> Seek
     ensures { λ r. ⌜ (r ≡ seekOf (now (frame .entry)) kind) × Within (now (frame .entry)) r ⌝ }
 {

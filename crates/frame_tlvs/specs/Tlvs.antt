@@ -61,6 +61,7 @@ valueAt p (Cut at) = none
 
 -- ── that the two agree ──
 
+-- the walk over TLVs finds the first of each type that their grammar has, and ends exactly where there are TLVs
 pub record WalkAgrees : Type 0 where
   -- where a run of TLVs stands, the walk finds the first of each type, and none of type 0
   pub finds : (kind : ℕ) (p : List ℕ) (at : ℕ) (ts : List (ℕ × List ℕ)) → Tlvs (drop at p) ts → valueAt p (walkFrom kind at p) ≡ firstOf kind ts

@@ -1,5 +1,7 @@
 // The TLVs of a PDU: where a walk over them stops.
-// It knows of no frame, no opcode and no state, and asks nothing of its caller.
+// It knows of no frame, no opcode and no state, and answers for any octets, any type and any place. The TLVs are said twice: as a
+// grammar, `frame_tlvs.Tlvs`, of what is there (a type, two octets of length, a value; the End TLV; padding), and as a walk that says
+// where the code stops.
 ghost use mathlib.Core.Path.{_≡_};
 ghost use Rattle.frame_tlvs.specs.Tlvs.{walkFrom, Inside};
 use base_numbers::read_big;
@@ -11,7 +13,7 @@ pub enum Place {
     Cut(usize),
 }
 
-// Walks over the TLVs of a PDU from a place on.
+// Walks over the TLVs of a PDU from a place on, and stops at type 0, at the wanted type, or at a cut; a value that is found lies inside.
 pub fn walk(pdu: &[u8], kind: u8, start: usize) -> Place
     ensures { λ r. ⌜ (r ≡ walkFrom kind start (now (pdu .entry))) × Inside (now (pdu .entry)) r ⌝ }
 {

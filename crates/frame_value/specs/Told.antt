@@ -15,7 +15,7 @@ valueTold Differs = tellValue 0 0 1 0
 valueTold NoSuch = tellValue 0 0 0 0
 valueTold (Bad b) = tellValue (badOf b .refusal) (badOf b .drop) 0 0
 
--- what is said of every answer
+-- no two answers on a value have the same numbers
 pub record ValueNumbers : Type 0 where
   -- no two are told alike
   pub apart : (a b : ValueAnswer) → valueTold a ≡ valueTold b → a ≡ b

@@ -1,5 +1,6 @@
 // What the value of a TLV holds: the octets of a data TLV, the zeros of a test TLV; the answer on it, and the same in the paper's numbers.
-// The value is the part of the frame that the reader hands back; nothing is copied.
+// The value is the part of the frame that the reader returns; nothing is copied, and nothing is needed of the caller. A test TLV without
+// any octet has no pattern type, so it does not hold type 0.
 ghost use mathlib.Core.Path.{_≡_};
 ghost use Rattle.frame_value.specs.Told.{valueTold};
 ghost use Rattle.frame_value.specs.Values.{zeroPattern, outcomeOf, sameData, zeroTest};
@@ -32,7 +33,7 @@ pub struct ValueTold {
     pub holds: u32,
 }
 
-// An answer in the paper's numbers.
+// An answer in the paper's numbers: the reader's, and 1 where the value is what was asked for.
 pub fn tell(answer: ValueAnswer) -> ValueTold
     ensures { λ r. ⌜ r ≡ valueTold answer ⌝ }
 {
@@ -98,7 +99,8 @@ fn outcome(answer: TlvAnswer, holds: bool) -> ValueAnswer
     }
 }
 
-// Tells whether the value of the frame's data TLV is these octets.
+// Whether the value of the frame's data TLV, type 3, is these octets, as many and in the same order; no such TLV and a bad frame's number
+// are answers of their own.
 pub fn same_data(frame: &[u8], octets: &[u8]) -> ValueAnswer
     ensures { λ r. ⌜ (r ≡ sameData (now (frame .entry)) (now (octets .entry)))
         × (valueTold r ≡ sameNumbers (now (frame .entry)) (now (octets .entry))) ⌝ }
@@ -107,7 +109,8 @@ pub fn same_data(frame: &[u8], octets: &[u8]) -> ValueAnswer
     outcome(tlv_answer(frame, 3), same)
 }
 
-// Tells whether the frame's test TLV holds pattern type 0 and zeros only.
+// Whether the frame's test TLV, type 32, holds pattern type 0 and zeros only; no such TLV and a bad frame's number are answers of their
+// own.
 pub fn all_zero_test(frame: &[u8]) -> ValueAnswer
     ensures { λ r. ⌜ (r ≡ zeroTest (now (frame .entry))) × (valueTold r ≡ zeroNumbers (now (frame .entry))) ⌝ }
 {

@@ -1,6 +1,7 @@
 // Prints what frames, given in hex, read as.
 // Standard input has a frame a line, in hex: the TLV type that is asked for, then the frame's octets; blanks are passed over, and `#`
-// begins a comment. Each line prints its message with the fields, or the refusal or drop, and behind a bar what the reader says of the TLV.
+// begins a comment, so a fitter can type it. Each line prints its message with the fields, or the refusal or drop, and after a bar what
+// the reader says of the TLV. The test input has a reason above each frame, decided from the papers and not from the program.
 use base_stamp::Stamp;
 use frame_ccm::ccm_fields;
 use frame_ccm::meg_id;

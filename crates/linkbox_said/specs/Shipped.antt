@@ -46,6 +46,8 @@ pub record Tells (x : Answer) (n : Numbers) (s : State) (b : List ℕ) (h : Hand
 
 -- ── the calls on a box ──
 
+-- for each function that C calls on a box, whatever its contract allows is the paper's outcome: the answer read from the numbers, the
+-- state in memory then, the buffer
 pub record Shipped : Type 1 where
   -- a new setting: the caller takes over what is handed out, unless it is refused
   pub new-setting : (κs : _) (a : _) (r : _) (s : _) → new-setting.Post κs a r s → Octets (now (a .1 .0)) → (before : State) (o : Outcome)
@@ -71,6 +73,8 @@ pub record Shipped : Type 1 where
 
 -- ── the calls beside a box ──
 
+-- the same of the lent session (`loss_lent.LentSaid`), stored records (`paper_beside.RecordSaid`) and the reader of TLVs
+-- (`paper_beside.ReaderSaid`)
 pub record ShippedBeside : Type 1 where
   -- the lent session's function, whose proof is by hand, has its clause `Lent` in place of a `Reads.Post`
   pub measure : FollowsLent Lent

@@ -58,7 +58,7 @@ pub record Agrees (f : Step) (d : LossEnd) (rs : List Readings) (ts : List Truth
   pub results : map (seen d) (answers f clearedSession rs) ≡ accounted ts
   pub totals : totalOf d (leaves f clearedSession rs) ≡ total ts
 
--- the demand
+-- demand 3 for a session, on any step, side by side
 pub record Demand3 (f : Step) : Type 0 where
   -- each side agrees, by the premise on its own two counts alone
   pub side : (d : LossEnd) (rs : List Readings) (ts : List Truth) → length rs ≤ mostReadings → Shows d rs ts → Sound ts → Agrees f d rs ts
@@ -103,6 +103,7 @@ pub record BothAgree (f : Step) (ts : List Counts) : Type 0 where
   pub totals : (d : LossEnd) → totalOf d (leaves f clearedSession (map shown ts)) ≡ total (map (truthOf d) ts)
   pub intervals : leaves f clearedSession (map shown ts) .intervals ≡ length ts - 1
 
+-- the same of both sides at once, from four true counts
 abbrev pub Demand3Both : Step → Type 0
 Demand3Both f = (ts : List Counts) → length ts ≤ mostReadings → Steady ts → BothAgree f ts
 
@@ -119,6 +120,6 @@ pub record Alike (f g : Step) (rs : List Readings) : Type 0 where
   pub totals : (d : LossEnd) → totalOf d (leaves f clearedSession rs) ≡ totalOf d (leaves g clearedSession rs)
   pub intervals : leaves f clearedSession rs .intervals ≡ leaves g clearedSession rs .intervals
 
--- any two that meet the demand, whatever the readings
+-- no choice is left: two steps that meet the demand give the same answers, totals and intervals to any 32-bit readings
 abbrev pub Tight : Type 0
 Tight = (f g : Step) → Demand3 f → Demand3 g → (rs : List Readings) → length rs ≤ mostReadings → Small rs → Alike f g rs

@@ -83,7 +83,9 @@ renewing s r =
     (record { answer = Full; session = record { kept = s .kept; intervals = s .intervals; last = r; near = s .near; far = s .far } })
     (afterReading s r)
 
--- none of them meets the demand
+-- eight wrong steps do not meet the demand, each by readings that are written out: among them one that measures the first interval and
+-- then repeats itself, one that invents the intervals, one that changes nothing, one that drops the sign, one that forgets the wrap, and
+-- totals since the last reading
 pub record ShutOut : Type 0 where
   pub idle-out : Demand3 idle → ⊥
   pub repeats-out : Demand3 repeats → ⊥

@@ -39,7 +39,8 @@ pub record LentAlike (said said′ : List LossTold) (e e′ : LossSession) : Typ
   pub totals : (d : LossEnd) → totalOf d e ≡ totalOf d e′
   pub intervals : e .intervals ≡ e′ .intervals
 
--- the lent session meets the demand; and no choice is left: any two that meet it are alike, whatever readings of 32 bits they are given
+-- the lent session meets demand 3 (`loss_lent.LentDemand3`); no choice is left: any two that meet it give the same answers and totals,
+-- whatever readings of 32 bits they are given
 pub record LentMeets : Type 1 where
   pub ours : LentDemand3 Lent
   pub tight : (L M : Lending) → LentDemand3 L → LentDemand3 M → (rs : List Readings) (said said′ : List LossTold) (e e′ : LossSession)

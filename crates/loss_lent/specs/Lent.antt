@@ -27,7 +27,7 @@ pub data LentRun (L : Lending) : LossSession → List Readings → List LossTold
   more : {s m e : LossSession} {r : Readings} {t : LossTold} {rs : List Readings} {ts : List LossTold} → L s r t m → LentRun L m rs ts e
       → LentRun L s (r ∷ rs) (t ∷ ts) e
 
--- what is said of every lent call and every run of them
+-- one outcome of a lent call; a run of them gives the numbers of the rule by value and leaves its session
 pub record Lends : Type 0 where
   -- one answer, and one content of the memory
   pub one : (s : LossSession) (r : Readings) (t t′ : LossTold) (e e′ : LossSession) → Lent s r t e → Lent s r t′ e′ → (t ≡ t′) × (e ≡ e′)

@@ -27,6 +27,8 @@ pub data LentSaid (s : LossSession) (r : Readings) : LossTold → LossSession �
 abbrev pub FollowsLent : Lending → Type 0
 FollowsLent L = (s : LossSession) (r : Readings) (t u : LossTold) (e f : LossSession) → L s r t e → LentSaid s r u f → (t ≡ u) × (e ≡ f)
 
+-- the lent session leaves what the paper's four lines on it say (`loss_lent.LentSaid`), and they say something of every session and
+-- reading
 pub record LentFollows : Type 0 where
   -- ours does, and the paper says something of every session and reading
   pub ours : FollowsLent Lent

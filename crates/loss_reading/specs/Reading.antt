@@ -50,7 +50,7 @@ afterReading s r =
     ∷ [])
     (measuredOf s r)
 
--- what is said of every session
+-- when a session is well formed, that it stays so, and each refusal exactly where it is due, which leaves the session as it was
 pub record Sessions : Type 0 where
   -- the test means the rules
   pub well : (s : LossSession) → (wellFormed s ≡ true) ↔ WellFormed s

@@ -1,4 +1,8 @@
 // What one more reading makes of a loss session, and what it is answered, in cases and in the paper's numbers. Rule 7 of the paper.
+// Two refusals, in this order: 2, the session is not well formed; 5, the reading would start interval 1,000,000,001. Each is given
+// exactly then and leaves the session as it was. In numbers a first reading looks like a measured interval of 0 and 0: refusal 0, results
+// 0 and 0. No other two answers look alike, and a caller in Rattle can tell the cases apart. Beside a refusal every other value is 0. The
+// code that takes the reading is apart, in `loss_step`, so that a mistake in what is said here is tried without it.
 ghost use mathlib.Core.Path.{_≡_};
 ghost use Rattle.loss_reading.specs.Told.{lossTold};
 use loss_session::LossSession;

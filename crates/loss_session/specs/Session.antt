@@ -44,7 +44,7 @@ mostIntervals = 1000000000
 abbrev pub mostReadings : ℕ
 mostReadings = mostIntervals + 1
 
--- the paper's rules for a session, one by one
+-- the paper's rules for a session, one by one; the test holds exactly where they do (`loss_session.well`)
 pub record WellFormed (s : LossSession) : Type 0 where
   pub flag : s .kept ≤ 1
   pub few : s .intervals ≤ mostIntervals

@@ -37,5 +37,6 @@ ccmNamed names c = ccmOctets (ownNamed names) (megNamed names) c
 abbrev pub ccmLength : ℕ
 ccmLength = 89
 
+-- a CCM has 89 octets
 pub record Lengths : Type 0 where
   pub ccm : (source meg : List ℕ) (c : CcmValues) → length source ≡ 6 → length meg ≡ 48 → length (ccmOctets source meg c) ≡ ccmLength

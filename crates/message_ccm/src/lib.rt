@@ -1,5 +1,6 @@
 // The CCM, written into the caller's buffer, with our own address and MEG ID.
-// It is made of what is given and of no state, and asks nothing of its caller.
+// It is made of what is given and of no state, and needs nothing of its caller: it is given our names as the settings keep them, and
+// takes our own address and the MEG ID from there. Buffer and answer are as in `message_parts`.
 ghost use mathlib.Core.Path.{_≡_};
 ghost use Prim.Native.Nat.{_≤_};
 ghost use lib.ListN.{length};
@@ -54,7 +55,7 @@ fn write_ccm_fixed(into: &mut [u8], meg: &[u8], ccm: CcmValues)
     write_big(into, HEAD_LENGTH + 70, 5, 0);
 }
 
-// Writes a CCM to the multicast address of its level, with our own address and MEG ID.
+// Writes a CCM, 89 octets, version 0, to the multicast address of its level, with our own address and MEG ID.
 pub fn write_ccm(into: &mut [u8], names: &Names, ccm: CcmValues) -> Written
     ensures { λ r. ⌜ (r ≡ writtenOf (ccmNamed (now (names .entry)) ccm) (now (into .entry)))
         × (writtenTold r ≡ writtenNumbers (ccmNamed (now (names .entry)) ccm) (now (into .entry))) ⌝ }

@@ -1,5 +1,6 @@
 // The DMM, written into the caller's buffer: from our own address to the loss peer's.
-// It is made of what is given and of no state, and asks nothing of its caller.
+// It is made of what is given and of no state, and needs nothing of its caller: it is given our names as the settings keep them. Buffer
+// and answer are as in `message_parts`.
 ghost use mathlib.Core.Path.{_≡_};
 ghost use lib.ListN.{length};
 ghost use Rattle.message_parts.specs.Buffer.{writtenOf, bufferOf, writtenTold, writtenNumbers};
@@ -19,7 +20,7 @@ use state_settings::Names;
 // How long a DMM is.
 const DMM_LENGTH: usize = 51;
 
-// Writes a DMM, version 1, with the caller's stamp.
+// Writes a DMM, 51 octets, version 1, from us to the loss peer, with the caller's stamp.
 pub fn write_dmm(into: &mut [u8], names: &Names, level: u32, stamp: Stamp) -> Written
     ensures { λ r. ⌜ (r ≡ writtenOf (dmmNamed (now (names .entry)) level stamp) (now (into .entry)))
         × (writtenTold r ≡ writtenNumbers (dmmNamed (now (names .entry)) level stamp) (now (into .entry))) ⌝ }

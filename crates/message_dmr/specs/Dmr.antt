@@ -15,7 +15,7 @@ unfoldable pub dmrOctets : List ℕ → Stamp → Stamp → List ℕ → List �
 dmrOctets own receive transmit request =
     laid (behindHead 20) (stampOctets transmit) (laid (behindHead 12) (stampOctets receive) (replyOctets own 46 request))
 
--- a reply is as long as its request
+-- a delay reply is as long as its request
 pub record Lengths : Type 0 where
   pub dmr : (own request : List ℕ) (receive transmit : Stamp) → length own ≡ 6 → behindHead 36 ≤ length request
       → length (dmrOctets own receive transmit request) ≡ length request

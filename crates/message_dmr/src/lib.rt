@@ -16,7 +16,7 @@ const TX_STAMP: usize = HEAD_LENGTH + 20;
 // Where the fixed part of the request ends.
 const DMM_FIXED: usize = HEAD_LENGTH + 36;
 
-// Writes the reply to a delay request: the receive stamp in RxTimeStampf, the transmit stamp in TxTimeStampb, given or not.
+// Writes the reply to a delay request, opcode 46: the receive stamp in RxTimeStampf, the transmit stamp in TxTimeStampb, given or not.
 pub fn write_dmr(
     into: &mut [u8],
     request: &[u8],

@@ -10,6 +10,6 @@ use Rattle.message_reply.specs.Replies.{replyOctets}
 abbrev pub lbrOctets : List ℕ → List ℕ → List ℕ
 lbrOctets own request = replyOctets own 2 request
 
--- a reply is as long as its request
+-- a loopback reply is as long as its request
 pub record Lengths : Type 0 where
   pub lbr : (own request : List ℕ) → length own ≡ 6 → behindHead 4 ≤ length request → length (lbrOctets own request) ≡ length request

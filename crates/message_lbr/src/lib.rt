@@ -9,7 +9,7 @@ use message_reply::write_reply;
 // Where the fixed part of the request ends.
 const LBM_FIXED: usize = HEAD_LENGTH + 8;
 
-// Writes the reply to a loopback request.
+// Writes the reply to a loopback request: source as destination, our address as source, opcode 2.
 pub fn write_lbr(into: &mut [u8], request: &[u8], own: [u8; 6]) -> Replied
     ensures { λ r. ⌜ (r ≡ repliedOf 4 (now (request .entry)) (lbrOctets own (now (request .entry))) (now (into .entry)))
         × (repliedTold r ≡ repliedNumbers 4 (now (request .entry)) (lbrOctets own (now (request .entry))) (now (into .entry))) ⌝ }

@@ -1,5 +1,6 @@
 // The LMM, written into the caller's buffer: from our own address to the loss peer's.
-// It is made of what is given and of no state, and asks nothing of its caller.
+// It is made of what is given and of no state, and needs nothing of its caller: it is given our names as the settings keep them. Buffer
+// and answer are as in `message_parts`.
 ghost use mathlib.Core.Path.{_≡_};
 ghost use lib.ListN.{length};
 ghost use Rattle.message_parts.specs.Buffer.{writtenOf, bufferOf, writtenTold, writtenNumbers};
@@ -17,7 +18,7 @@ use state_settings::Names;
 // How long an LMM is.
 const LMM_LENGTH: usize = 31;
 
-// Writes an LMM, version 1, with our sent count.
+// Writes an LMM, 31 octets, version 1, from us to the loss peer, with our sent count.
 pub fn write_lmm(into: &mut [u8], names: &Names, level: u32, sent: u32) -> Written
     ensures { λ r. ⌜ (r ≡ writtenOf (lmmNamed (now (names .entry)) level sent) (now (into .entry)))
         × (writtenTold r ≡ writtenNumbers (lmmNamed (now (names .entry)) level sent) (now (into .entry))) ⌝ }

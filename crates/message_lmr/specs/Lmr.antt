@@ -13,7 +13,7 @@ use Rattle.message_reply.specs.Replies.{replyOctets}
 unfoldable pub lmrOctets : List ℕ → ℕ → ℕ → List ℕ → List ℕ
 lmrOctets own received sent request = laid (behindHead 12) (count sent) (laid (behindHead 8) (count received) (replyOctets own 42 request))
 
--- a reply is as long as its request
+-- a loss reply is as long as its request
 pub record Lengths : Type 0 where
   pub lmr : (own request : List ℕ) (received sent : ℕ) → length own ≡ 6 → behindHead 16 ≤ length request
       → length (lmrOctets own received sent request) ≡ length request

@@ -15,7 +15,7 @@ const TX_FCB: usize = HEAD_LENGTH + 12;
 // Where the fixed part of the request ends.
 const LMM_FIXED: usize = HEAD_LENGTH + 16;
 
-// Writes the reply to a loss request: our received count in RxFCf, our sent count in TxFCb.
+// Writes the reply to a loss request, opcode 42: our received count in RxFCf, our sent count in TxFCb.
 pub fn write_lmr(into: &mut [u8], request: &[u8], own: [u8; 6], received: u32, sent: u32) -> Replied
     ensures { λ r. ⌜ (r ≡ repliedOf 12 (now (request .entry)) (lmrOctets own received sent (now (request .entry))) (now (into .entry)))
         × (repliedTold r ≡ repliedNumbers 12 (now (request .entry)) (lmrOctets own received sent (now (request .entry))) (now (into .entry))) ⌝ }

@@ -34,7 +34,7 @@ writtenTold (Octets n) = tellWritten 0 n
 abbrev pub writtenNumbers : List ℕ → List ℕ → WrittenTold
 writtenNumbers message buffer = cond (noRoom message buffer) (tellWritten 3 0) (tellWritten 0 (length message))
 
--- an answer is told as the paper numbers it, and no two answers are told alike
+-- an answer has the paper's numbers, and no two have the same
 pub record WrittenNumbers : Type 0 where
   pub agree : (message buffer : List ℕ) → writtenTold (writtenOf message buffer) ≡ writtenNumbers message buffer
   pub apart : (a b : Written) → writtenTold a ≡ writtenTold b → a ≡ b

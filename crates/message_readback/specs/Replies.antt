@@ -31,7 +31,7 @@ pub record Answers (own request : List ℕ) (opcode : ℕ) (f : List ℕ) : Type
   pub answers : (kind : ℕ) → answerOf f kind ≡ answerOf request kind
   pub values : (kind : ℕ) → valueOf f kind ≡ valueOf request kind
 
--- for every good request, of any offset
+-- an LBR, LMR or DMR to any good request, of any offset, reads back as the request with what differs
 pub record RepliesBack : Type 0 where
   -- such a request is never cut off, so of the answers to it D5 is none
   pub whole : (request : List ℕ)

@@ -57,6 +57,7 @@ pub record DmmBack (destination source : List ℕ) (level : ℕ) (stamp : Stamp)
 
 -- ── each of them ──
 
+-- a CCM, LMM or DMM reads back as what it was made of
 pub record SentBack : Type 0 where
   pub ccm : (source meg : List ℕ) (c : CcmValues) → CcmGiven source meg c → CcmBack source meg c (ccmOctets source meg c)
   pub lmm : (destination source : List ℕ) (level sent : ℕ) → length destination ≡ 6 → length source ≡ 6 → level < 8 → Word sent

@@ -44,7 +44,7 @@ abbrev pub repliedNumbers : ℕ → List ℕ → List ℕ → List ℕ → Repli
 repliedNumbers fixed request reply buffer =
     choose ((cutOff fixed request, tellReplied 0 5 0) ∷ (noRoom reply buffer, tellReplied 3 0 0) ∷ []) (tellReplied 0 0 (length reply))
 
--- an answer is told as the paper numbers it, and no two answers are told alike
+-- an answer has the paper's numbers, and no two have the same
 pub record RepliedNumbers : Type 0 where
   pub agree : (fixed : ℕ) (request reply buffer : List ℕ) → repliedTold (repliedOf fixed request reply buffer) ≡ repliedNumbers fixed request reply buffer
   pub apart : (a b : Replied) → repliedTold a ≡ repliedTold b → a ≡ b

@@ -1,5 +1,10 @@
 // What the replies share: the request with other addresses and another opcode, and what writing a reply is answered.
-// A reply is made of what is given and of no state. Nothing is asked of the caller.
+// D5 where the request ends before its fixed part does, then refusal 3 where the buffer is shorter than the reply, and nothing changes by
+// either; else the reply is in the first octets, and every octet behind it is as it was (`message_reply.repliedOf`,
+// `message_reply.leftOf`, in numbers `message_reply.repliedNumbers`). A reply is the request copied whole with what differs laid over it,
+// so it is as long as the request and keeps its padding. Twelve octets are written twice; in return the definition says "all other octets
+// are kept" by its form. A reply is made of what is given and of no state. Nothing is needed of the caller: that a good request never
+// gets this D5 is a theorem. The writers take our address by value, six octets, so that its type has the length.
 ghost use mathlib.Core.Path.{_≡_};
 ghost use Rattle.message_reply.specs.Replies.{replyInto};
 use base_octets::copy_octets;

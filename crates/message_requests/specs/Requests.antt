@@ -39,6 +39,7 @@ lmmLength = 31
 abbrev pub dmmLength : ℕ
 dmmLength = 51
 
+-- an LMM has 31 octets, and a DMM 51
 pub record Lengths : Type 0 where
   pub lmm : (destination source : List ℕ) (level sent : ℕ) → length destination ≡ 6 → length source ≡ 6
       → length (lmmOctets destination source level sent) ≡ lmmLength

@@ -90,6 +90,8 @@ ourReader f kind = readerTells (answerOf f kind) (valueOf f kind)
 pub record FollowsReader (R : List ℕ → ℕ → ReaderTells) : Type 0 where
   pub follows : (f : List ℕ) (kind : ℕ) (r : ReaderTells) → Octets f → ReaderSaid f kind r → R f kind ≡ r
 
+-- our reader answers what the paper's lines say of a frame, which is something of every frame and never two things; so any two that
+-- follow them answer the same, and one that finds nothing does not follow them
 pub record ReaderFollows : Type 0 where
   pub ours : FollowsReader ourReader
   -- it says something of every frame, and never two things; so any two that follow it tell the same

@@ -86,6 +86,8 @@ ourRecords (write-line l b) = leaving (writeTells (writeLine l b .answer)) (writ
 pub record FollowsRecords (R : RecordCall → RecordLeft) : Type 0 where
   pub follows : (c : RecordCall) (o : RecordLeft) → Handed c → RecordSaid c o → R c ≡ o
 
+-- our functions on records leave what the paper's lines say, which is something of every call and never two things; so any two that
+-- follow them leave the same; one that refuses everything and one that writes nothing do not follow them
 pub record RecordsFollow : Type 0 where
   pub ours : FollowsRecords ourRecords
   -- it says something of every call, and never two things; so any two that follow it leave the same

@@ -131,5 +131,7 @@ abbrev pub AllHold : List (Type 0) → Type 0
 AllHold [] = Unit {0}
 AllHold (row ∷ rows) = row × AllHold rows
 
+-- the paper's worked edges of the first octet, growth, loss, a lost peer, delay, and a CCM's offset, with which it is still read as a
+-- CCM: one table
 abbrev pub Edges : Type 0
 Edges = AllHold table

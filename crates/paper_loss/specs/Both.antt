@@ -29,7 +29,8 @@ pub record BothAgree (B : Box) (n : ℕ) (s : State) (cs : List Call) (es : List
   pub totals : (d : LossEnd) → totalOf d (run B s cs .session) ≡ total (map (truthOf d) ts)
   pub intervals : run B s cs .session .intervals ≡ length ts - 1
 
--- each reading is a true count modulo 2^32, and no true count falls, or grows by 2^32 or more
+-- the same with all four true counts at once, as the order says it: each reading is a true count modulo 2^32, and no true count falls, or
+-- grows by 2^32 or more
 abbrev pub AtOnce : Type 0
 AtOnce = (B : Box) → Demand3 B → (n : ℕ) (s : State) (cs : List Call) (es : List Event) (ts : List Counts) → SinceClear n s cs es
     → accepted n es ≡ map shown ts → Steady ts → BothAgree B n s cs es ts

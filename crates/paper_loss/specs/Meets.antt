@@ -12,13 +12,14 @@ use Rattle.paper_loss.specs.Replies.{SinceClear}
 use Rattle.paper_loss.specs.Demand3.{said, Demand3}
 use Rattle.paper_loss.specs.Both.{AtOnce}
 
--- every box that follows the paper meets it, and ours is one
+-- every box that follows the paper meets `paper_loss.Demand3`, ours too
 pub record Meets : Type 0 where
   pub meets : (B : Box) → Follows B → Demand3 B
   pub ours-meets : Demand3 ours
 
 -- ── every call is something ──
 
+-- every run without a new setting has its events, they are the only ones, and they are of the settings and the calls alone
 pub record Whole : Type 0 where
   -- every run without a new setting has its events, and they are the only ones
   pub all : (s : State) (cs : List Call) → Each OnWire cs → Each NoSetting cs → (es : List Event) × Events s cs es
@@ -45,7 +46,7 @@ pub record Alike (B C : Box) (s : State) (cs : List Call) (es : List Event) : Ty
   pub totals : (d : LossEnd) → totalOf d (run B s cs .session) ≡ totalOf d (run C s cs .session)
   pub intervals : run B s cs .session .intervals ≡ run C s cs .session .intervals
 
--- any two that meet the demand, whatever the readings
+-- no choice is left: two boxes that meet the demand answer every good reply alike and hold the same totals and intervals
 abbrev pub Tight : Type 0
 Tight = (B C : Box) → Demand3 B → Demand3 C → (n : ℕ) (s : State) (cs : List Call) (es : List Event) → SinceClear n s cs es → Alike B C s cs es
 

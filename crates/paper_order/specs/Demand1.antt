@@ -36,8 +36,8 @@ pub record Demand1 (B : Box) : Type 0 where
   pub never-2 : (s : State) (t : Settings) (cs : List Call) (c : Call) → Settable t → Each OnWire cs → OnWire c
       → B (since B s t cs) c .answer ≡ refused 2 → ⊥
 
--- the calls that are given no state say it of themselves: settings and loss lines in stored records, the reader of TLVs, the loss session, by value
--- and lent
+-- demand 1 of the calls that are given no state: settings and loss lines in stored records, the reader of TLVs, the loss session, by
+-- value and lent
 pub record Beside : Type 0 where
   pub settings : SettingsRecords
   pub lines : LossRecords

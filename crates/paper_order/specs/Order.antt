@@ -18,7 +18,8 @@ pub record Order (B : Box) : Type 0 where
   pub demand-3 : Demand3 B
   pub in-time : Time B
 
--- every box that follows the paper keeps it, and so does ours
+-- every box that follows the paper keeps demands 1, 2 and 3 and is in time, ours too; the paper says one thing of every call, and its
+-- answers are in its numbers; the calls beside it keep demands 1 and 2, and the lent session demand 3
 pub record Met : Type 1 where
   pub every : (B : Box) → Follows B → Order B
   pub our-box : Order ours

@@ -43,6 +43,7 @@ pub record Promised (B : Box) : Type 0 where
   pub own-id : (s : State) (a : Arrival) → OnWire (frame a) → OwnCcm s a → megIn (pdu a) ≡ s .settings .meg → ccmIn (pdu a) .mep ≡ s .settings .mep
       → B s (frame a) ≡ leaves taken (put word.unexpected-mep (hold s) s) (a .buffer)
 
+-- the paper says one thing of every call; all boxes that follow it are one box, and keep the tables on refusals and on what they leave
 pub record Promises : Type 0 where
   -- the paper says something of every call, and never two things
   pub says : (s : State) (c : Call) → OnWire c → (o : Outcome) × Said s c o
@@ -54,6 +55,7 @@ pub record Promises : Type 0 where
 
 -- ── boxes that do not follow the paper, though each may do all that it should at a new setting and with a bad state ──
 
+-- no box that refuses every call but a new setting, gives all of them one answer, or changes nothing at any of them follows the paper
 pub record ShutOut : Type 0 where
   -- one that refuses every other call
   pub refuses-all : (B : Box) → Follows B

@@ -38,6 +38,6 @@ ours s call.conditions = leaves (conditionsAnswer (conditionsOf s)) s []
 pub record Follows (B : Box) : Type 0 where
   pub follows : (s : State) (c : Call) (o : Outcome) → OnWire c → Said s c o → B s c ≡ o
 
--- ours does
+-- whatever the paper says of a call, our box leaves
 pub record OursFollows : Type 0 where
   pub box : Follows ours

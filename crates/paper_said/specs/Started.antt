@@ -44,6 +44,7 @@ pub record NoSettings (t : Settings) : Type 0 where
   pub meg : t .meg ≡ replicate 48 0
   pub ids : t .ids ≡ replicate slots 0
 
+-- what beside refusal 4 is returned: every word is 0
 pub record AllZero (s : State) : Type 0 where
   pub settings : NoSettings (s .settings)
   pub timers : s .timers ≡ replicate slots 0

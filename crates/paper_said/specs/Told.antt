@@ -56,6 +56,7 @@ frameAsNumbers t = record {
   onewaynear = t .onewaynear;
 }
 
+-- the numbers that each function returns are those of the paper's answer
 pub record ToldAlike : Type 0 where
   pub setting : (r : SettingAnswer) → counted (Setting.settingTold r .refusal) 0 0 ≡ answerNumbers (settingAnswer r)
   pub frame : (r : FrameAnswer) → frameAsNumbers (Frame.frameTold r) ≡ answerNumbers (frameAnswer r)

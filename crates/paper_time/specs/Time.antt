@@ -62,6 +62,7 @@ pub data LastSet (t : Settings) (x : Timer) : List Call → Type 0 where
   unset : (cs : List Call) → Each (Unset t x) cs → LastSet t x cs
   split : (before : List Call) (c : Call) (h : ℕ) (cs : List Call) → Sets t x c h → Each (Unset t x) cs → LastSet t x (before ++ (c ∷ cs))
 
+-- every box that follows the paper is in time, ours too; a run sets a timer never, or there is a last call that does
 pub record Timely : Type 0 where
   -- every box that follows the paper is in time, ours too
   pub every : (B : Box) → Follows B → Time B

@@ -27,6 +27,7 @@ early s (send-LMM b) = ours s (send-LMM b)
 early s (send-DMM t b) = ours s (send-DMM t b)
 early s conditions = ours s conditions
 
+-- a CCM a tick early, every tick refused, room wanted at every tick, nothing changed but by a setting: none of these boxes is in time
 pub record OutOfTime : Type 0 where
   -- one whose CCM comes a tick early
   pub a-tick-early : Time early → ⊥

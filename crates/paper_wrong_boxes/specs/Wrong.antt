@@ -80,7 +80,8 @@ lingers s (send-LMM b) = ours s (send-LMM b)
 lingers s (send-DMM t b) = ours s (send-DMM t b)
 lingers s conditions = ours s conditions
 
--- none of them meets the demand
+-- five wrong boxes do not meet demand 3, each by a run that is written out: one repeats itself after the first reply, one invents the
+-- intervals, one counts every second frame, one drops the sign, one has a clear that clears nothing
 pub record ShutOut : Type 0 where
   pub repeats-out : Demand3 repeats → ⊥
   pub invents-out : Demand3 invents → ⊥

@@ -1,1 +1,1 @@
-// Boxes that demand 3 shuts out, each by a run that is written out: statements and proofs, no code.
+// Counterexamples: five wrong boxes, each with a run on which it violates demand 3: statements and proofs, no code.

@@ -58,7 +58,7 @@ frameTold (Measured near far) = tellFrame 0 0 5 0 near far absent absent absent
 frameTold (TwoWay twoway) = tellFrame 0 0 6 0 absent absent twoway absent absent
 frameTold (AllWays twoway far near) = tellFrame 0 0 7 0 absent absent twoway far near
 
--- what is said of every answer
+-- no two answers have the same numbers; beside a refusal, and beside a drop, every other value is 0
 pub record FrameNumbers : Type 0 where
   -- no two answers are told alike
   pub apart : (a b : FrameAnswer) → frameTold a ≡ frameTold b → a ≡ b

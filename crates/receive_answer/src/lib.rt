@@ -1,4 +1,6 @@
 // What a frame is answered: a case for each line of the paper's tables, and the same in the paper's numbers.
+// What was done has a number of ours, 1 to 7, beside the paper's refusals, drops and values: these alone do not tell a frame that passes
+// from one that is taken in, nor a first reading from an interval without loss.
 ghost use mathlib.Core.Path.{_≡_};
 ghost use Rattle.receive_answer.specs.Told.{dropOf, absent, tellFrame, frameTold};
 
@@ -148,7 +150,7 @@ fn delayed(done: u32, twoway: i64, far: i64, near: i64) -> FrameTold
     }
 }
 
-// An answer in the paper's numbers.
+// An answer in the paper's numbers: refusal, drop, what was done, length, near and far loss, two-way delay, one-way far and near.
 pub fn tell(answer: FrameAnswer) -> FrameTold
     ensures { λ r. ⌜ r ≡ frameTold answer ⌝ }
 {

@@ -1,4 +1,6 @@
 // What was decided about a frame is carried out: the state is changed, a reply is written, or the frame is only answered.
+// A step, as `receive_decide` is: it needs nothing, and refuses nothing but 3 for a reply and 5 for a loss reply. It gives the frame's
+// own answer, which `receive_frame` returns.
 ghost use mathlib.Core.Path.{_≡_};
 ghost use Rattle.base_laws.specs.Ended.{ended};
 ghost use Rattle.state_view.specs.State.{before, after};
@@ -29,7 +31,7 @@ fn delay_answer(answer: DelayAnswer) -> FrameAnswer
     }
 }
 
-// Does with a frame what was decided about it.
+// Does with a frame what was decided about it: answer, state and buffer.
 pub fn carry_out(
     set: &Set,
     names: &Names,

@@ -1,4 +1,6 @@
 // What a frame changes in a state, where it lies: the one place where a frame changes a state. Rules 1, 3, 5 and 7 of the paper.
+// Of a loss reply, in this order: refusal 2 where the session is not well formed, which `receive_frame` has ruled out by then; 5 where
+// the reply would start interval 1,000,000,001. Neither changes anything.
 ghost use mathlib.Core.List.{[]};
 ghost use mathlib.Core.Path.{_≡_};
 ghost use Rattle.base_laws.specs.Ended.{ended};
@@ -87,7 +89,8 @@ fn take_counts(
     answer_of(answer)
 }
 
-// Applies a change, and answers the frame.
+// Applies a change, and answers the frame: a service count one more, the unexpected-level timer with D2, what a message says, or a loss
+// reply's counts taken into the session with our received count.
 pub fn apply(
     set: &Set,
     names: &Names,

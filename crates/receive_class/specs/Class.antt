@@ -35,7 +35,7 @@ classOf ours side f =
     ∷ [])
     (bySide ours side (levelOf (pduOf f)))
 
--- what each class means, of any frame that is long enough for a head
+-- what each class means, of any frame from 14 octets on; what is looked at further has 18
 pub record Classes (ours : ℕ) (side : Side) (f : List ℕ) : Type 0 where
   pub service : 14 ≤ length f → (etherTypeOf f ≡ 0x8902 → ⊥) → classOf ours side f ≡ Service
   pub short : 14 ≤ length f → etherTypeOf f ≡ 0x8902 → length f < 18 → classOf ours side f ≡ Short

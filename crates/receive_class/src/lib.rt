@@ -1,6 +1,7 @@
 // What a frame is to the box: service, too short, above, inside, below, our own level.
-// This is the first thing decided about a frame. It looks at the level that is set, the side, the length, the EtherType and the first octet
-// of the PDU, and at nothing else.
+// This is the first thing decided about a frame. It looks at the level that is set, the side, the length, the EtherType and the first
+// octet of the PDU, and at nothing else. It is a step and not an answer, so it has no numbers. What is shorter than a head counts as
+// service; `receive_frame` has refused it with 1 before. The side is an enum, so a caller in Rattle has no third one.
 ghost use mathlib.Core.Path.{_≡_};
 ghost use Rattle.receive_class.specs.Class.{oamFrame, bySide, classOf};
 use base_numbers::read_big;
@@ -55,7 +56,7 @@ fn by_side(ours: u32, side: Side, theirs: u32) -> Class
     }
 }
 
-// What a frame is to a box of this level.
+// What a frame is to a box of this level: service, too short (D1), above, inside (D2), below or our own level.
 pub fn class_of(ours: u32, side: Side, frame: &[u8]) -> Class
     ensures { λ r. ⌜ r ≡ classOf ours side (now (frame .entry)) ⌝ }
 {

@@ -1,5 +1,8 @@
 // What is done with a frame, decided from the settings and the frame alone: no state is looked at.
-// Rules 1 to 5 and 8 of the paper; which requests rule 6 answers, and which counts rule 7 takes.
+// Rules 1 to 5 and 8 of the paper; which requests rule 6 answers, and which counts rule 7 takes. It is given the settings, the frame, its
+// side and the receive stamp, and no other part of the state, so nothing else can bear on the decision. A frame is decided first and
+// carried out after. A change is one case of the decision and not a second answer beside it: a drop, a pass or a reply could else come
+// with a change that does not belong to it. Rule 3's drop, which changes something, is a change whose answer is D2.
 ghost use mathlib.Core.Path.{_≡_};
 ghost use Prim.Native.Nat.{_≤_};
 ghost use lib.ListN.{length};
@@ -115,7 +118,8 @@ fn count(side: Side) -> Change
     }
 }
 
-// Decides what is done with a frame.
+// Decides what is done with a frame, by rules 1 to 4 in their order: it is dropped, passes, changes something, is replied to, or has its
+// delays measured.
 pub fn decide(
     set: &Set,
     names: &Names,

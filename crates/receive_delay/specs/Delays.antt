@@ -43,7 +43,7 @@ delaysOf txf rxf txb here =
     ∷ [])
     (TwoWay (there-and-back txf here))
 
--- what is said of every reply
+-- D8 is never given, and D7 exactly where a stamp cannot be used
 pub record DelayLaws : Type 0 where
   -- D8 is never given: no four stamps of the wire are so far apart
   pub never-D8 : (txf rxf txb here : Stamp) → Wire txf → Wire rxf → Wire txb → Wire here → delaysOf txf rxf txb here ≡ TooLarge → ⊥

@@ -1,4 +1,6 @@
 // Delay measurement: the delays of a reply in signed nanoseconds, from stamps of any content. Rule 8 of the paper.
+// The caller's nanoseconds are not judged here: refusal 6 has done that before a frame is read, and the delay of any receive stamp fits
+// in 64 bits. In numbers a two-way result looks the same as three delays whose one-way parts are 0. Beside a drop every other value is 0.
 ghost use mathlib.Core.Path.{_≡_};
 ghost use Prim.Native.Nat.{_≤_};
 ghost use lib.IntN.{natAbs, _-ℤ_};
@@ -59,11 +61,11 @@ fn stamps_good(txf: Stamp, rxf: Stamp, txb: Stamp, here: Stamp) -> bool
     good_stamp(txf) & (!pair(rxf, txb) | (good_stamp(rxf) & good_stamp(txb))) & given_stamp(here)
 }
 
-// The delays of a reply, from its three stamps and the caller's receive stamp:
-//   txf    TxTimeStampf, when we asked, by our clock
-//   rxf    RxTimeStampf, when the request came, by the responder's clock
-//   txb    TxTimeStampb, when the reply left, by the responder's clock
-//   here   when the reply came, by our clock
+// The delays of a reply: D7, two-way alone, or all three, and never D8. From its three stamps and the caller's receive stamp:
+//   txf is TxTimeStampf, when we asked, by our clock;
+//   rxf is RxTimeStampf, when the request came, by the responder's clock;
+//   txb is TxTimeStampb, when the reply left, by the responder's clock;
+//   here is when the reply came, by our clock.
 pub fn measure_delay(txf: Stamp, rxf: Stamp, txb: Stamp, here: Stamp) -> DelayAnswer
     ensures { λ r. ⌜ (r ≡ delaysOf txf rxf txb here) × (delayTold r ≡ delayNumbers txf rxf txb here) ⌝ }
 {

@@ -31,7 +31,8 @@ fn good_source(losspeer: &[u8], only: bool, request: bool, source: &[u8]) -> boo
     !(request & has_group_bit(source)) & !(only & stranger)
 }
 
-// Tells whether a frame of this opcode and level, with these addresses, is for a box of these addresses.
+// Whether a frame of this opcode and level, with these addresses, is for a box of these addresses, so not D6: our address, or the
+// multicast address of the frame's level where the opcode may go there; no request from a group; no LMR but the loss peer's.
 pub fn is_for_us(
     own: &[u8],
     losspeer: &[u8],

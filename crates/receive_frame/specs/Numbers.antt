@@ -85,7 +85,7 @@ frameNumbers s side f receive transmit buffer =
     ∷ [])
     (decisionNumbers s f receive transmit buffer (decideOf (s .settings) side f receive))
 
--- an answer is told as the paper numbers it
+-- the numbers that a frame is answered with are those that a chain of tests in numbers alone says
 pub record FramesTold : Type 0 where
   pub agree : (s : State) (side : Side) (f : List ℕ) (receive transmit : Stamp) (buffer : List ℕ)
       → frameTold (frameOf s side f receive transmit buffer .answer) ≡ frameNumbers s side f receive transmit buffer

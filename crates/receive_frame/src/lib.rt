@@ -1,5 +1,7 @@
 // A frame comes: refusals 2, 1 and 6, then what is decided about it, then 3 or 5.
-// The end point's call for every frame, from either side.
+// The end point's call for every frame, from either side. Refusals and drops in this order: 2, 1, 6 (either stamp, whatever the frame
+// is); then D1 to D8 as the frame rules have them; then 3 for a reply, or 5 for a loss reply. A frame that passes, is dropped or is taken
+// in never gives 3.
 ghost use mathlib.Core.Path.{_≡_};
 ghost use Rattle.base_laws.specs.Ended.{ended};
 ghost use Rattle.state_view.specs.State.{before, after};
@@ -23,7 +25,8 @@ use state_view::Run;
 use state_view::Totals;
 use state_well_formed::is_well_formed;
 
-// Takes a frame from a side, with the stamp of its receipt, the stamp to send a reply with, and a buffer for the reply.
+// Takes a frame from a side, with the stamp of its receipt, the stamp to send a reply with, and a buffer for the reply. The answer's
+// numbers are said by a chain of tests of their own, beside the same decision.
 pub fn on_frame(
     set: &Set,
     names: &Names,

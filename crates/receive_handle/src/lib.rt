@@ -1,5 +1,7 @@
 // What a good message for us does, by who handles it: rules 5 to 8 of the paper.
-// No state is looked at.
+// No state is looked at. A step of `receive_decide`, which has judged the frame: a good message has its fixed part. Its length is tested
+// again here, so that nothing is needed of the caller; that a frame that was judged never gets this D5 is part of the proof of
+// `receive_decide`.
 ghost use mathlib.Core.Path.{_≡_};
 ghost use Prim.Native.Nat.{_+_, _≤_};
 ghost use lib.ListN.{length};
@@ -73,7 +75,8 @@ fn delays_in(pdu: &[u8], receive: Stamp) -> DelayAnswer
     )
 }
 
-// A message for us, by who handles it. A good one has its fixed part, so it is never cut off here.
+// A message for us, by who handles it: D5 where the fixed part of its opcode is not all there, which a good one never gets, else the
+// handler's line of rules 5 to 8.
 pub fn handle_message(
     set: &Set,
     names: &Names,

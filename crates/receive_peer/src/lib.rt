@@ -30,7 +30,8 @@ fn front(slots: &[u32], count: u32) -> &[u32]
     &slots[..used]
 }
 
-// Tells what a CCM's PDU says. One too short for a MEG ID has not ours.
+// What a CCM's PDU says: another MEG, no peer's MEP ID, or the peer in its slot with its RDI, and whether its period is unlike ours. One
+// too short for a MEG ID has not ours.
 pub fn ccm_signal(set: &Set, names: &Names, ids: &Slots, pdu: &[u8]) -> Signal
     ensures { λ r. ⌜ r ≡ ccmSignal (lentSettings set names ids) (now (pdu .entry)) ⌝ }
 {

@@ -1,4 +1,6 @@
 // The answer to a request: the reply written from the request, our address, our counts and the caller's stamps. Rule 6 of the paper.
+// D5 where the request ends before its fixed part does, which `receive_decide` has ruled out by then; refusal 3 where the buffer is
+// shorter than the reply. Nothing changes by either. The state is only read.
 ghost use mathlib.Core.Path.{_≡_};
 ghost use Rattle.state_settings.specs.Settings.{ownNamed};
 ghost use Rattle.state_view.specs.State.{before};
@@ -45,7 +47,7 @@ fn answer_for(replied: Replied) -> FrameAnswer
     }
 }
 
-// Answers a request.
+// Answers a request: the LBR, LMR or DMR of it in our name, with our counts or the caller's stamps.
 pub fn respond(
     set: &Set,
     names: &Names,

@@ -1,7 +1,8 @@
 // Works a month again: raw loss replies on standard input, a stored loss line after each on standard output.
-// A reply is four little-endian counts of 32 bits (TxFCf, RxFCf, TxFCb, our own received count); `sheet` prints the lines. A reply that the
-// input cuts short, or that the session has no interval left for, ends it and is told on standard error; the lines before it stand. What is
-// written for a chunk of replies is proved in `stored_replies`.
+// A reply is four little-endian counts of 32 bits (TxFCf, RxFCf, TxFCb, our own received count); `sheet` prints the lines. A reply that
+// the input cuts short, or that the session has no interval left for, ends it and is reported on standard error, since standard output
+// holds records and nothing else; the lines before it stay. What is written for a chunk of replies is proved in `stored_replies`. The
+// loop ends by a count of turns, which starts at 2^64 - 1, since a loop must be shown to end and nothing says that the input does.
 use libc::STDERR_FILENO;
 use libc::STDIN_FILENO;
 use libc::STDOUT_FILENO;

@@ -1,5 +1,5 @@
-// The parts of a call's body. A call stands at the front of its array, number first, so that a part at a fixed place is always there; what a call's
-// length must be, the room `replay_good_calls` has tested.
+// The parts of a call's body. A call is at the front of its array, number first, so that a part at a fixed place is always there; what a
+// call's length must be, `replay_good_calls` has tested.
 use base_numbers::read_little;
 use base_octets::copy_octets;
 use base_stamp::Stamp;
@@ -23,7 +23,7 @@ pub(crate) fn stamp(call: &[u8; MOST], at: usize) -> Stamp {
     }
 }
 
-// What stands from a place to the call's end.
+// What is from a place to the call's end.
 pub(crate) fn rest(call: &[u8; MOST], from: usize, n: usize) -> &[u8] {
     let all: &[u8] = call;
     if all.len() < n {

@@ -14,7 +14,7 @@ pub(crate) struct Held {
     pub(crate) session: LossSession,
 }
 
-// What is held behind a call, and how long its line is so far.
+// What is held after a call, and how long its line is so far.
 pub(crate) struct Ran {
     pub(crate) held: Held,
     pub(crate) length: usize,

@@ -1,4 +1,4 @@
-// The parts that lines share. Each is put behind what stands already, and answers the place behind itself.
+// The parts that lines share. Each is put behind what is there already, and returns the place behind itself.
 use base_hex::write_hex;
 use base_number_write::write_decimal;
 use base_text::write_word;
@@ -28,7 +28,7 @@ pub(crate) fn worded(line: &mut [u8], word: &[u8], shown: &[u8]) -> usize {
     octets(line, behind, shown)
 }
 
-// The buffer part that a call handed over.
+// The buffer part that a call passed in.
 pub(crate) fn buffer(line: &mut [u8], at: usize, out: &[u8]) -> usize {
     let behind = write_word(line, at, b" |");
     octets(line, behind, out)

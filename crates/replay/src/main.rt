@@ -1,7 +1,9 @@
 // Runs recorded calls: calls on standard input, one line for each on standard output.
-// At a bad call it prints `bad call` and stops.
-// What a call is, what it is answered and how octets and numbers are written is proved in the rooms below; here is only which call goes
-// where, and in which words its answer is printed.
+// At a bad call it prints `bad call` and stops. What a call is, what it is answered and how octets and numbers are written is proved in
+// the crates below; here is only which call goes where, and in which words its answer is printed. State and session are held by value: a
+// handler takes what is held, lends the state's seven arrays from there, and returns what is then held; what a new setting returns
+// becomes the held state. 267 calls `loss_lent::answer`, since no caller that lends a struct is covered by the toolchain. A part at a
+// fixed place of a call is read from the program's array of 2,000 octets, so no handler tests a length.
 mod body;
 mod held;
 mod line;
@@ -109,7 +111,7 @@ fn run_call(
     }
 }
 
-// The end of a call's line: the buffer part, where one was handed over, and a line feed.
+// The end of a call's line: the buffer part, where one was passed in, and a line feed.
 fn end_line(line: &mut [u8], at: usize, number: u32, out: &[u8]) -> usize {
     if hands_over(number) {
         let behind = buffer(line, at, out);
@@ -118,7 +120,7 @@ fn end_line(line: &mut [u8], at: usize, number: u32, out: &[u8]) -> usize {
     write_word(line, at, b"\n")
 }
 
-// Prints the first n octets of a line; tells whether all were written.
+// Prints the first n octets of a line; returns whether all were written.
 fn print(line: &[u8; LINE], n: usize) -> bool {
     let all: &[u8] = line;
     if all.len() < n {
@@ -164,7 +166,7 @@ fn run_whole(held: Held, call: &[u8; MOST], n: usize, room: usize) -> Turn {
     Turn { held: after, more }
 }
 
-// Reads what follows a call's length; tells whether all of it came. That it fits, `call_length` has tested.
+// Reads what follows a call's length; returns whether all of it came. That it fits, `call_length` has tested.
 fn fetch(call: &mut [u8], length: usize) -> bool {
     if call.len() < length {
         return false;

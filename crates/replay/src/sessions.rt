@@ -14,7 +14,7 @@ use replay_session::SESSION;
 use replay_session::session_in;
 use replay_session::session_octets;
 
-// 266: the session is put as it stands.
+// 266: the session is put as it is.
 pub(crate) fn put_session(held: Held, call: &[u8; MOST], line: &mut [u8]) -> Ran {
     let all: &[u8] = call;
     let mut body = [0u8; SESSION];

@@ -72,7 +72,7 @@ pub(crate) fn show_state(state: StateArrays, line: &mut [u8]) -> usize {
     worded(line, b"state", &shown)
 }
 
-// A word where a condition stands.
+// A word where a condition is active.
 fn condition(line: &mut [u8], at: usize, word: &[u8], stands: u32) -> usize {
     if stands == 0 {
         return at;
@@ -80,7 +80,7 @@ fn condition(line: &mut [u8], at: usize, word: &[u8], stands: u32) -> usize {
     write_word(line, at, word)
 }
 
-// A peer's ID, and right behind it what stands of it.
+// A peer's ID, and right behind it what is active of it.
 fn peer(line: &mut [u8], at: usize, id: u32, lost: u32, rdi: u32) -> usize {
     let named = number(line, at, id as i64);
     let colon = write_word(line, named, b":");
@@ -122,7 +122,7 @@ fn others(line: &mut [u8], at: usize, flags: ConditionFlags) -> usize {
     condition(line, e, b" lck", flags.lck)
 }
 
-// 272: which conditions stand.
+// 272: which conditions are active.
 pub(crate) fn run_conditions(state: StateArrays, line: &mut [u8]) -> usize {
     let set = state.set;
     let names = state.names;

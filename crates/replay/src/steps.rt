@@ -31,7 +31,7 @@ use replay_state::STATE;
 use replay_state_read::state_in;
 use state_view::StateArrays;
 
-// 257: what the setting hands out becomes the held state: the state that it starts with, zeros where it is refused.
+// 257: what the setting returns becomes the held state: the state that it starts with, zeros where it is refused.
 pub(crate) fn run_setting(held: Held, call: &[u8; MOST], line: &mut [u8]) -> Ran {
     let read = settings(call);
     let set = read.set;
@@ -179,7 +179,7 @@ pub(crate) fn run_clear(held: Held, line: &mut [u8]) -> Ran {
     stepped(held, after, done(line, told.refusal, b"cleared"))
 }
 
-// 263: the state is put as it stands.
+// 263: the state is put as it is.
 pub(crate) fn put_state(held: Held, call: &[u8; MOST], line: &mut [u8]) -> Ran {
     let all: &[u8] = call;
     let mut body = [0u8; STATE];

@@ -47,7 +47,7 @@ roomAt place call = choose ((eqb place 0, 0) ∷ (ltb (length call - 2) place, 0
 unfoldable pub roomOf : List ℕ → ℕ
 roomOf call = cond (ltb (length call) 2) 0 (roomAt (placeOf (frontNumber call)) call)
 
--- what is said of every call
+-- which lengths a call can have; the six calls that pass in a buffer
 pub record Calls : Type 0 where
   -- a length from 2 to 2,000 is told as it stands, and no other
   pub told : (head : List ℕ) → 2 ≤ frontNumber head → frontNumber head ≤ 2000 → callLength head ≡ frontNumber head

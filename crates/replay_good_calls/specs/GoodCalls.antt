@@ -47,6 +47,6 @@ pub record IsCall (call : List ℕ) : Type 0 where
   pub side : frontNumber call ≡ 258 → getD call 2 0 ≤ 1
   pub room : roomOf call ≤ 1600
 
--- what is said of every call: what is tested is what is meant
+-- the one test holds exactly where the rules on a call (`replay_good_calls.IsCall`) do
 pub record GoodCalls : Type 0 where
   pub good : (call : List ℕ) → (isCall call ≡ true) ↔ IsCall call

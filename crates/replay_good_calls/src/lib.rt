@@ -1,4 +1,6 @@
 // Which octets are a call: a number that is known, a body of its length, a good side, a good buffer.
+// The side of a frame is 0 or 1, and a buffer part has at most 1,600 octets. Anything else is a bad call. Tested once here, so that no
+// handler tests a length.
 ghost use mathlib.Core.Path.{_≡_};
 ghost use Rattle.replay_good_calls.specs.GoodCalls.{sideGood, isCall};
 use base_numbers::read_little;
@@ -45,7 +47,7 @@ fn side_good(call: &[u8], number: u32) -> bool
     call[2] <= 1
 }
 
-// Tells whether these octets are a call without its length: a number that is known, a body of its length, a good side, a good buffer.
+// Whether these octets are a call without its length: a number that is known, a body of its length, a good side, a good buffer.
 pub fn is_call(call: &[u8]) -> bool
     ensures { λ r. ⌜ r ≡ isCall (now (call .entry)) ⌝ }
 {

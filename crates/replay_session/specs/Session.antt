@@ -60,7 +60,8 @@ pub record FieldsHold (s : LossSession) : Type 0 where
   pub far : SFits w64 (s .far)
   pub intervals : s .intervals < 2 ^ 32
 
--- what is said of every session in octets, well formed or not
+-- any 37 octets come back from the session that they hold, well formed or not, and a session whose numbers fit their fields from its
+-- octets
 pub record SessionsInOctets : Type 0 where
   pub long : (s : LossSession) → length (sessionOctets s) ≡ 37
   -- octets come back from the session that they hold, and a session from its octets

@@ -1,5 +1,6 @@
 // How a loss session lies in 37 octets, as recorded runs hold it; such octets read and written, any content.
-// Kept 1, the four readings of 4, near 8, far 8, intervals 4.
+// Kept 1, the four readings of 4, near 8, far 8, intervals 4. Nothing is needed or tested: any 37 octets are a session, well formed or
+// not, and are shown as the same octets.
 ghost use mathlib.Core.Path.{_≡_};
 ghost use Rattle.replay_session.specs.Session.{sessionAt, sessionOctets};
 use base_numbers::read_little;
@@ -12,7 +13,7 @@ use loss_session::Readings;
 // The octets of a session.
 pub const SESSION: usize = 37;
 
-// The session in these octets, taken as it stands: nothing is tested.
+// The session in these octets, taken as it is: nothing is tested.
 pub fn session_in(from: &[u8; SESSION]) -> LossSession
     ensures { λ r. ⌜ r ≡ sessionAt (now (from .entry)) ⌝ }
 {

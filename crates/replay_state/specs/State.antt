@@ -65,7 +65,7 @@ arraysOf s = record {
   totals = totalsOf s;
 }
 
--- what is said of every state in octets, well formed or not
+-- the arrays that are read show the state in the octets; any 194 octets that are put are shown as the same octets
 pub record StatesInOctets : Type 0 where
   pub long : (s : State) → Shaped slots (s .settings) → length (s .timers) ≡ slots → length (s .rdi) ≡ slots → length (stateOctets s) ≡ 194
   -- the arrays that are read show the state in the octets

@@ -17,7 +17,7 @@ unfoldable pub wordsIn : ℕ → ℕ → List ℕ → List ℕ
 wordsIn n zero octets = []
 wordsIn n (suc k) octets = fieldAt 0 n octets ∷ wordsIn n k (drop n octets)
 
--- what is said of words in octets, for any n
+-- words in n octets each, for any n: where each is, how long all are, there and back
 pub record WordsInOctets : Type 0 where
   -- the word i stands in n octets, from place n i on
   pub at : (n k : ℕ) (octets : List ℕ) (i : ℕ) → i < k → getD (wordsIn n k octets) i 0 ≡ fieldAt (n * i) n octets

@@ -60,7 +60,7 @@ fn run_in(from: &[u8], s: LossSession) -> Run
     ]
 }
 
-// The state in these octets, taken as it stands: nothing is tested.
+// The state in these octets, taken as it is: nothing is tested.
 pub fn state_in(from: &[u8; STATE]) -> StateArrays
     ensures { λ r. ⌜ r ≡ arraysOf (stateAt (now (from .entry))) ⌝ }
 {

@@ -43,7 +43,7 @@ fn write_words(into: &mut [u8], at: usize, n: usize, words: &[u32])
     }
 }
 
-// Writes what stands between the settings and the session: the counts, the words of the slots, the timers of the conditions.
+// Writes what is between the settings and the session: the counts, the words of the slots, the timers of the conditions.
 fn write_running(into: &mut [u8], timers: &[u32], rdi: &[u32], run: &Run)
     requires { ⌜ (157 ≤ length (now into)) × (length (now timers) ≡ slots) × (length (now rdi) ≡ slots) ⌝ }
     ensures { λ _. ⌜ now (into .exit) ≡
@@ -79,7 +79,7 @@ pub fn state_octets(
 ) -> [u8; STATE]
     ensures { λ r. ⌜ r ≡ stateOctets (before set names ids timers rdi run totals) ⌝ }
 {
-    // a view of an array tells its length, and costs nothing
+    // a view of an array has its length, and costs nothing
     let _names: &[u8] = names;
     let _slots: &[u32] = ids;
     let slot_timers: &[u32] = timers;

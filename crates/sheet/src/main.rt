@@ -1,6 +1,8 @@
 // Prints the link sheet: stored loss lines on standard input; a header and a line for each on standard output.
 // There may be any number of them. It prints `refused 7` at the first that is bad or cut short, and stops. What is printed for a chunk of
-// records is proved in `stored_sheet_lines`; here is only the reading and the writing.
+// records is proved in `stored_sheet_lines`; here is only the reading and the writing. The buffer is as large as a chunk asks for, so too
+// little room is never answered. The loop ends by a count of turns, which starts at 2^64 - 1, since a loop must be shown to end and
+// nothing says that the input does.
 use libc::STDERR_FILENO;
 use libc::STDIN_FILENO;
 use libc::STDOUT_FILENO;

@@ -14,7 +14,8 @@ pub record Whole (run : List ℕ) (totals : List ℤ) : Type 0 where
   pub words : length run ≡ runWords
   pub both : length totals ≡ lossTotals
 
--- what is said of every state in arrays
+-- storing a word at its place changes that word and no other; six words and the peers' timers lowered are every timer lowered; a state
+-- lies in one way only
 pub record Stores (set names ids : List ℕ) : Type 0 where
   -- a word stored at its place is that word anew, and no other
   pub word : (timers rdi run : List ℕ) (totals : List ℤ) (w : Word) (v : ℕ) → length run ≡ runWords

@@ -51,7 +51,8 @@ addressesGood own losspeer = eqb (groupBit own) 0 && eqb (groupBit losspeer) 0 &
 unfoldable pub valid : Settings → Bool
 valid t = numbersGood (t .level) (t .mep) (t .period) (t .count) && (addressesGood (t .own) (t .losspeer) && peersGood (t .count) (t .mep) (t .ids))
 
--- the test holds exactly where the rules do; and of valid settings, as they are handed over, the peers are 1 to 8
+-- the test holds exactly where the paper's rules on settings do, one field a rule (`state_settings.Valid`); of valid settings, as they
+-- are passed in, the peers are 1 to 8
 pub record ValidIs : Type 0 where
   pub valid-is : (t : Settings) → (valid t ≡ true) ↔ Valid t
   pub peers : (t : Settings) → Shaped slots t → Valid t → (1 ≤ t .count) × (t .count ≤ 8)

@@ -42,6 +42,6 @@ standing s =
     || runs (s .ais)
     || runs (s .lck)
 
--- the test holds exactly where a condition stands
+-- the one test holds exactly where a condition is active, one line a condition (`state_standing.Stands`)
 pub record StandingIs : Type 0 where
   pub standing-is : (s : State) → (standing s ≡ true) ↔ Stands s

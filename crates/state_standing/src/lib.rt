@@ -1,5 +1,6 @@
 // Whether any condition stands, for the RDI of our own CCM.
-// It only reads the state.
+// It only reads the state. Apart from `call_conditions`: whether any condition is active is asked for each CCM, each by itself only by
+// whoever asks.
 ghost use mathlib.Core.Path.{_≡_};
 ghost use lib.ListN.{take};
 ghost use Rattle.state_view.specs.State.{before};
@@ -30,7 +31,7 @@ fn front(slots: &[u32], count: u32) -> &[u32]
     &slots[..used]
 }
 
-// Tells whether any condition stands.
+// Whether any condition is active other than a peer's RDI.
 pub fn any_stands(
     set: &Set,
     names: &Names,

@@ -67,6 +67,6 @@ wellFormed s =
     && (slotsGood (s .timers) (s .rdi) (s .settings .count) (ownMost s)
     && Session.wellFormed (s .session))))
 
--- the test holds exactly where the rules do
+-- the one test holds exactly where the paper's rules on a state do
 pub record WellFormedIs : Type 0 where
   pub well-formed-is : (s : State) → (wellFormed s ≡ true) ↔ WellFormed s

@@ -1,4 +1,8 @@
 // What a box knows, where it lies and when it is well formed: a state is lent in seven arrays, and any content is a value.
+// `state_view.viewOf` says which word lies where, and every definition speaks of the record that it gives. When a state is well formed is
+// said here, as rules, one field each (`state_view.WellFormed`), and as a test (`state_view.wellFormed`), and both agree; `state_timers`,
+// `state_slots` and `state_well_formed` carry the test out. A word is 32 bits wide, whatever its range, so that any content is a value
+// that can be refused.
 ghost use mathlib.Core.Path.{_≡_};
 ghost use Rattle.state_view.specs.State.{sessionIn};
 use loss_session::LossSession;

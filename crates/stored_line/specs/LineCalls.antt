@@ -61,7 +61,11 @@ lineNumbers octets =
     ∷ [])
     (values (lineIn octets))
 
--- what is said of every loss line
+-- kind 2, 24 octets: near, far, intervals; no function needs anything. Reading gives 7 exactly where there is no whole record of kind 2
+-- with a body of 20 octets, or its values break a rule (`stored_line.KeepsRules`); octets behind the record are not looked at. Writing
+-- gives 4, then 3, exactly where they are due. A record written reads back, and one that is read writes back. The test is the session's
+-- own, on a line made into a session with a reading of four zeros kept, so the bound on totals is said once; it holds exactly where the
+-- rules on intervals and totals do
 pub record LossRecords : Type 0 where
   pub rules : (line : LossLine) → (keepsRules line ≡ true) ↔ KeepsRules line
   -- 7 exactly where the head is wrong, the record is cut short, or a value breaks a rule; and beside it every value is 0

@@ -54,7 +54,7 @@ quay = readings 100 100 50 50 ∷ readings 200 200 60 61 ∷ []
 abbrev pub quaySheet : List ℕ
 quaySheet = 105 ∷ 110 ∷ 116 ∷ 101 ∷ 114 ∷ 118 ∷ 97 ∷ 108 ∷ 115 ∷ 32 ∷ 110 ∷ 101 ∷ 97 ∷ 114 ∷ 32 ∷ 102 ∷ 97 ∷ 114 ∷ 10 ∷ 48 ∷ 32 ∷ 48 ∷ 32 ∷ 48 ∷ 10 ∷ 49 ∷ 32 ∷ 45 ∷ 49 ∷ 32 ∷ 48 ∷ 10 ∷ []
 
--- what is said of every month
+-- a month worked again is the account in unlimited whole numbers: records, sheet, the halt after the last reply, the grain quay
 pub record Months : Type 0 where
   -- readings of 32 bits come back from their raw form
   pub raw-back : (rs : List Readings) → Small rs → replies (rawReplies rs) ≡ rs

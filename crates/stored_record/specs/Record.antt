@@ -45,7 +45,8 @@ pub data NoRecord (kind body : ℕ) (octets : List ℕ) : Type 0 where
 unfoldable pub isRecord : ℕ → ℕ → List ℕ → Bool
 isRecord kind body octets = leb (4 + body) (length octets) && (eqb (lengthField octets) (2 + body) && eqb (kindField octets) kind)
 
--- what is said of every record
+-- when octets begin with a record (`stored_record.IsRecord`), and when not (`stored_record.NoRecord`); a record is read back, whatever is
+-- behind it; what is read as one is the record of its body; octets behind it are not looked at
 pub record Records : Type 0 where
   -- the test means the rules, and fails exactly where one of them is broken
   pub is : (kind body : ℕ) (octets : List ℕ) → (isRecord kind body octets ≡ true) ↔ IsRecord kind body octets

@@ -43,7 +43,8 @@ recordNumbers good body buffer =
     ∷ [])
     (tellRecord 0 (4 + length body))
 
--- what is said of every record that is to be written
+-- each refusal of a write exactly where it is due, and then the buffer is as it was and the length 0; else the record is written and the
+-- octets behind it stay
 pub record Writes : Type 0 where
   -- each answer exactly where its line holds and none before it
   pub refuses-4 : (good : Bool) (kind : ℕ) (body buffer : List ℕ)

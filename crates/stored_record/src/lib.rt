@@ -1,6 +1,9 @@
 // A stored record of any kind: its head tested, head and body written, and what writing one is answered.
-// The head is two octets with the length of all that follows them and two with the kind; then comes the body. What a record is stands in
-// specs/.
+// The head is two octets with the length of all that follows them and two with the kind; then comes the body (`stored_record.recordOf`).
+// Refusals of a write, in this order: 4, the values break a rule, as the caller says, or the body has more than 65,533 octets, which its
+// two-octet length field, that counts the kind too, cannot express; 3, the buffer is shorter than the record. Neither changes the buffer;
+// else the record is in the first octets, and every octet behind it is as it was. The head is tested and written here for every kind, so
+// 4 before 3 is said once. No function needs anything.
 ghost use mathlib.Core.Path.{_≡_};
 ghost use Rattle.stored_record.specs.Writing.{recordTold, writeRecord, recordNumbers};
 ghost use Prim.Native.Nat.{_+_, _≤_};
@@ -29,7 +32,7 @@ pub struct RecordTold {
     pub length: usize,
 }
 
-// An answer in the paper's numbers.
+// An answer in the paper's numbers: the refusal, or the record's length.
 pub fn tell(answer: RecordAnswer) -> RecordTold
     ensures { λ r. ⌜ r ≡ recordTold answer ⌝ }
 {

@@ -19,6 +19,10 @@ answerTo s octets buffer = recountInto s octets buffer .answer
 abbrev pub butHalted : Wrote Recounted → Wrote Recounted
 butHalted o = wrote (answered (o .answer .refusal) 5 (o .answer .taken) (o .answer .session)) (o .buffer)
 
+-- a record of 24 octets for each reply taken; chunks of whole replies, one after another, give what the whole gives; refused with 2
+-- exactly where the session is not well formed, then with 3 exactly where there is too little room, and a refusal changes nothing; halted
+-- with 5 exactly where there are more replies than the session still takes, and then the call leaves what a call on the replies before it
+-- leaves; never both; a well-formed session stays so
 pub record Recounts : Type 0 where
   -- a record of 24 octets for each reply taken, and never more replies than there are
   pub long : (s : LossSession) (octets : List ℕ) → length (worked s (replies octets) .records) ≡ worked s (replies octets) .taken * 24

@@ -1,5 +1,10 @@
 // Raw loss replies worked again in memory, a stored loss line after each; chunks of them give what the whole gives.
-// The four counts of each reply go to a session. What a card kept of a month is so made into its sheet.
+// The four counts of each reply go to a session, a raw reply being four counts of 32 bits, the lowest octet first, in the paper's order
+// of readings; that form is ours. Refusal 2 where the session is not well formed, then 3 where the buffer has no room for a record of 24
+// octets for each whole reply of 16; then nothing changes. Where the session has no interval left for a reply, the call halts there, and
+// its answer says so in a word of its own, halted, with the paper's number 5: the replies before it are taken and their records written
+// (`stored_replies.worked`), that one and those after it are not taken. A halt is no refusal, since a refused call would leave
+// everything, and no call is both; to refuse the whole chunk would lose good lines. Octets behind the last whole reply are not looked at.
 ghost use mathlib.Core.Path.{_≡_};
 ghost use Prim.Native.Nat.{_+_, _≤_};
 ghost use lib.ListN.{length, drop};

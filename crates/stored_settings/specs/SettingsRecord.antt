@@ -66,7 +66,10 @@ writeSettings t buffer = writeRecord (valid t) 1 (settingsBody t) buffer
 abbrev pub settingsWrittenNumbers : Settings → List ℕ → RecordTold
 settingsWrittenNumbers t buffer = recordNumbers (valid t) (settingsBody t) buffer
 
--- what is said of every record of settings
+-- kind 1, 85 octets; no function needs anything. Reading gives 7 exactly where there is no whole record of kind 1 with a body of 81
+-- octets, or its settings break a rule, and then zeros beside it; octets behind the record are not looked at. Writing gives 4, then 3,
+-- exactly where they are due, as `stored_record` says. A record written reads back, and one that is read writes back as the same 85
+-- octets
 pub record SettingsRecords : Type 0 where
   -- its length field holds 83
   pub length-is : 2 + bodySize ≡ 83

@@ -71,7 +71,8 @@ pub record FieldsHold (t : Settings) : Type 0 where
   pub count : t .count < 2 ^ 8
   pub ids : (i : ℕ) → getD (t .ids) i 0 < 2 ^ 16
 
--- what is said of every body, for any number of slots
+-- for any number of slots, and kind 1 has as many as a box: settings come back from their body, and a body from its settings; where each
+-- ID is; how long both are
 pub record Bodies : Type 0 where
   -- the ID of slot i stands in two octets, from place 2 i on
   pub ids-at : (n : ℕ) (octets : List ℕ) (i : ℕ) → i < n → getD (idsIn n octets) i 0 ≡ fieldAt (2 * i) 2 octets

@@ -18,7 +18,7 @@ namesOf t = t .own ++ t .losspeer ++ t .meg
 abbrev pub given : Settings → SettingsRead
 given t = record { refusal = 0; set = setOf t; names = namesOf t; ids = t .ids }
 
--- what is said of settings in memory, for any number of slots
+-- settings lie in their arrays in one way only, for any number of slots
 pub record Lying : Type 0 where
   -- settings of these lengths are read off as what they are
   pub back : (n : ℕ) (t : Settings) → Shaped n t → settingsOf (setOf t) (namesOf t) (t .ids) ≡ t

@@ -101,7 +101,9 @@ workedInput = 22 ∷ 0 ∷ 2 ∷ 0 ∷ 255 ∷ 255 ∷ 255 ∷ 255 ∷ 255 ∷ 2
 abbrev pub workedOutput : List ℕ
 workedOutput = 105 ∷ 110 ∷ 116 ∷ 101 ∷ 114 ∷ 118 ∷ 97 ∷ 108 ∷ 115 ∷ 32 ∷ 110 ∷ 101 ∷ 97 ∷ 114 ∷ 32 ∷ 102 ∷ 97 ∷ 114 ∷ 10 ∷ 49 ∷ 32 ∷ 45 ∷ 49 ∷ 32 ∷ 48 ∷ 10 ∷ 51 ∷ 32 ∷ 53 ∷ 32 ∷ 52 ∷ 50 ∷ 57 ∷ 52 ∷ 57 ∷ 54 ∷ 55 ∷ 50 ∷ 57 ∷ 53 ∷ 10 ∷ []
 
--- what is said of every input
+-- the text of any input (`stored_sheet.textOf`) is what is meant, record by record (`stored_sheet.Prints`), and there is no other; chunks
+-- laid end to end give the text of the whole, with a bad record in any of them; no input, octets left over, another kind; the paper's
+-- worked input and output
 pub record Sheets : Type 0 where
   -- what is computed is what is meant, and there is nothing else that it could be
   pub prints : (octets : List ℕ) → Octets octets → Prints octets (textOf octets)

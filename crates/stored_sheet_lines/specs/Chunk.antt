@@ -26,7 +26,10 @@ writeLines octets buffer =
     ∷ [])
     (wrote (Stopped (length (textOf octets))) (laid 0 (textOf octets) buffer))
 
--- what is said of every chunk
+-- too little room is answered, and then nothing changes, exactly where the buffer is shorter than three octets for each octet read and 63
+-- more, which is always enough: a line has at most 63 octets, and its record has 24. Else the text is in the first octets, every octet
+-- behind it is as it was, and the answer has its length and whether it ends at a bad record. These are steps of a program and no answers
+-- of the paper, so they have no numbers
 pub record Chunks : Type 0 where
   -- the text has room there
   pub fits : (octets : List ℕ) → length (textOf octets) ≤ room octets

@@ -2,15 +2,16 @@
 #[allow(dead_code)]
 #[path = "../linkbox/ffi.rs"]
 mod ffi;
+mod plain;
 mod twin;
 
 #[cfg(tlv)]
 use ffi::TlvTold;
 use ffi::{Arrays as State, ConditionsTold, FrameTold, LineTold, LossLine, LossSession, LossTold, Names, NewBox, Readings, Run, SettingArrays, SettingsRead};
 use ffi::{Set, Slots, Stamp, Totals, Written};
+use plain::{HOLDS, NEXT, NOTHING, RECEIVED, TICKS};
 use std::hint::black_box;
 use std::time::Instant;
-use twin::{HOLDS, NEXT, NOTHING, RECEIVED, TICKS};
 
 // One program that is timed: every call of the box.
 trait Shape {
@@ -34,41 +35,57 @@ trait Shape {
 
 // A program in Rust: each call by an expression, and not inlined into the measuring.
 macro_rules! in_rust {
-    ($shape:ident, $name:literal, $($call:ident($($arg:ident: $kind:ty),*) -> $told:ty = $body:expr;)*) => {
+    ($shape:ident, $name:literal, $($(#[$when:meta])? $call:ident($($arg:ident: $kind:ty),*) -> $told:ty = $body:expr;)*) => {
         struct $shape;
 
         impl Shape for $shape {
             const NAME: &'static str = $name;
 
             $(
+                $(#[$when])?
                 #[inline(never)]
                 fn $call($($arg: $kind),*) -> $told {
                     $body
                 }
             )*
-
-            #[cfg(tlv)]
-            #[inline(never)]
-            fn tlv(f: &[u8], kind: u8) -> TlvTold {
-                if $name == "twin" { twin::find_tlv(f, kind) } else { black_box((f, kind)); TlvTold::default() }
-            }
         }
     };
 }
 
 in_rust! { Twin, "twin",
+    new_setting(s: &State) -> NewBox = twin::new_setting(s);
+    frame(s: &mut State, side: u32, f: &[u8], receive: Stamp, transmit: Stamp, out: &mut [u8]) -> FrameTold =
+        twin::on_frame(s, side == 0, f, receive, transmit, out);
+    tick(s: &mut State, out: &mut [u8]) -> Written = twin::tick(s, out);
+    clear(s: &mut State) -> u32 = twin::clear(s);
+    send_lmm(s: &State, out: &mut [u8]) -> Written = twin::send_lmm(s, out);
+    send_dmm(s: &State, stamp: Stamp, out: &mut [u8]) -> Written = twin::send_dmm(s, stamp, out);
+    conditions(s: &State) -> ConditionsTold = twin::conditions(s);
+    measure(session: &mut LossSession, now: Readings) -> LossTold = twin::measured(session, now);
+    read_settings(from: &[u8]) -> SettingsRead = twin::read_settings(from);
+    write_settings(s: &State, into: &mut [u8]) -> Written = twin::write_settings(s, into);
+    read_line(from: &[u8]) -> LineTold = twin::read_line(from);
+    write_line(line: LossLine, into: &mut [u8]) -> Written = twin::write_line(into, line);
+    #[cfg(tlv)]
+    tlv(f: &[u8], kind: u8) -> TlvTold = twin::find_tlv(f, kind);
+}
+
+in_rust! { Plain, "plain",
     new_setting(s: &State) -> NewBox = s.new_setting();
-    frame(s: &mut State, side: u32, f: &[u8], receive: Stamp, transmit: Stamp, out: &mut [u8]) -> FrameTold = s.on_frame(side == 0, f, receive, transmit, out);
+    frame(s: &mut State, side: u32, f: &[u8], receive: Stamp, transmit: Stamp, out: &mut [u8]) -> FrameTold =
+        s.on_frame(side == 0, f, receive, transmit, out);
     tick(s: &mut State, out: &mut [u8]) -> Written = s.tick(out);
     clear(s: &mut State) -> u32 = s.clear();
     send_lmm(s: &State, out: &mut [u8]) -> Written = s.send_lmm(out);
     send_dmm(s: &State, stamp: Stamp, out: &mut [u8]) -> Written = s.send_dmm(stamp, out);
     conditions(s: &State) -> ConditionsTold = s.conditions();
     measure(session: &mut LossSession, now: Readings) -> LossTold = session.measured(now);
-    read_settings(from: &[u8]) -> SettingsRead = twin::read_settings(from);
+    read_settings(from: &[u8]) -> SettingsRead = plain::read_settings(from);
     write_settings(s: &State, into: &mut [u8]) -> Written = s.write_settings(into);
-    read_line(from: &[u8]) -> LineTold = twin::read_line(from);
-    write_line(line: LossLine, into: &mut [u8]) -> Written = twin::write_line(into, line);
+    read_line(from: &[u8]) -> LineTold = plain::read_line(from);
+    write_line(line: LossLine, into: &mut [u8]) -> Written = plain::write_line(into, line);
+    #[cfg(tlv)]
+    tlv(f: &[u8], kind: u8) -> TlvTold = plain::find_tlv(f, kind);
 }
 
 // Calls that do nothing: what the measuring itself takes.
@@ -91,6 +108,8 @@ in_rust! { Nothing, "nothing",
     write_settings(s: &State, into: &mut [u8]) -> Written = { black_box((s, into)); Written::default() };
     read_line(from: &[u8]) -> LineTold = { black_box(from); LineTold::default() };
     write_line(line: LossLine, into: &mut [u8]) -> Written = { black_box((line, into)); Written::default() };
+    #[cfg(tlv)]
+    tlv(f: &[u8], kind: u8) -> TlvTold = { black_box((f, kind)); TlvTold::default() };
 }
 
 // A program compiled from the repository's crates; its exports are written by `run`, as ffi.rs declares them but under names of their own.
@@ -323,7 +342,7 @@ fn with_data(mut f: Vec<u8>) -> Vec<u8> {
 // A record of settings, and one of a loss line.
 fn records(s: &State) -> (Vec<u8>, Vec<u8>) {
     let (mut settings, mut line) = (vec![0; 85], vec![0; 24]);
-    assert!(s.write_settings(&mut settings).refusal == 0 && twin::write_line(&mut line, LINE).refusal == 0);
+    assert!(s.write_settings(&mut settings).refusal == 0 && plain::write_line(&mut line, LINE).refusal == 0);
     (settings, line)
 }
 
@@ -503,19 +522,37 @@ fn make<S: Shape>(kind: Kind, s: &mut State, session: &mut LossSession, given: &
     }
 }
 
-// One call of a shape and of the twin on the same state, session, octets and buffer: the same answer and memory after it, or the end.
-fn agree<S: Shape>(kind: Kind, s: &mut State, session: &mut LossSession, given: &Given, room: usize) -> (u32, u32) {
-    let (mut a, mut b, mut sa, mut sb) = (*s, *s, *session, *session);
-    let (mut x, mut y) = ([7u8; 1514], [7u8; 1514]);
-    let told = make::<S>(kind, &mut a, &mut sa, given, &mut x[..room]);
-    let wanted = make::<Twin>(kind, &mut b, &mut sb, given, &mut y[..room]);
-    if told != wanted || a != b || sa != sb || x != y {
-        eprintln!("{} and the twin differ in {kind:?}: state the same: {}, session: {}, buffer: {}\n{told:?}\n{wanted:?}", S::NAME, a == b, sa == sb, x == y);
-        eprintln!("side {}, room {room}, {:?} {:?}\nfrom {s:?}\n{session:?}\noctets {:02x?}\nto {a:?}\nand {b:?}", given.side, given.receive, given.transmit, given.octets);
-        std::process::exit(1);
+// What one call of a program leaves: what it tells, and the state, session and buffer after it.
+type After = (Told, State, LossSession, [u8; 1514]);
+
+fn after<S: Shape>(kind: Kind, s: &State, session: &LossSession, given: &Given, room: usize) -> After {
+    let (mut state, mut lent, mut out) = (*s, *session, [7u8; 1514]);
+    let told = make::<S>(kind, &mut state, &mut lent, given, &mut out[..room]);
+    (told, state, lent, out)
+}
+
+// The same answer and memory after a call, or the end.
+fn same(names: (&str, &str), kind: Kind, a: &After, b: &After, s: &State, session: &LossSession, given: &Given, room: usize) {
+    if a == b {
+        return;
     }
-    (*s, *session) = (b, sb);
-    wanted.numbers()
+    let (state, lent, buffer) = (a.1 == b.1, a.2 == b.2, a.3 == b.3);
+    eprintln!("{} and the {} differ in {kind:?}: state the same: {state}, session: {lent}, buffer: {buffer}", names.0, names.1);
+    eprintln!("{:?}\n{:?}\nside {}, room {room}, {:?} {:?}", a.0, b.0, given.side, given.receive, given.transmit);
+    eprintln!("from {s:?}\n{session:?}\noctets {:02x?}", given.octets);
+    eprintln!("to {:?}\nand {:?}", a.1, b.1);
+    std::process::exit(1);
+}
+
+// One call of a shape and of both twins on the same state, session, octets and buffer.
+fn agree<S: Shape>(kind: Kind, s: &mut State, session: &mut LossSession, given: &Given, room: usize) -> (u32, u32) {
+    let ours = after::<S>(kind, s, session, given, room);
+    let twin = after::<Twin>(kind, s, session, given, room);
+    let plain = after::<Plain>(kind, s, session, given, room);
+    same((S::NAME, "twin"), kind, &ours, &twin, s, session, given, room);
+    same((S::NAME, "plain twin"), kind, &ours, &plain, s, session, given, room);
+    (*s, *session) = (plain.1, plain.2);
+    plain.0.numbers()
 }
 
 fn random(x: &mut u64) -> u64 {
@@ -574,6 +611,7 @@ fn any_frame(s: &State, x: &mut u64) -> Vec<u8> {
         4 | 5 => (18..f.len().min(42)).for_each(|i| f[i] = random(x) as u8 >> 3),
         6 => f[6] |= 1,
         7 if f.len() > 17 => f[17] = (at % 80) as u8,
+        8 => f.resize(f.len() + at, 0),
         _ => {}
     }
     f
@@ -625,7 +663,7 @@ fn other_kind(i: u64) -> Kind {
     kinds[(i % kinds.len() as u64) as usize]
 }
 
-// Ours and the twin on each measured call, 1,000 times: none is refused or dropped.
+// Ours and both twins on each measured call, 1,000 times: none is refused or dropped.
 fn compare_measured<S: Shape>(calls: &[Call]) {
     for call in calls {
         let (mut s, mut session) = (call.state, LossSession::default());
@@ -641,7 +679,7 @@ fn compare_measured<S: Shape>(calls: &[Call]) {
     }
 }
 
-// Ours and the twin on calls of every kind: states good and spoilt, frames and records good, cut and changed, short buffers, bad stamps.
+// Ours and both twins on calls of every kind: states good and spoilt, frames and records good, cut and changed, short buffers, bad stamps.
 fn compare<S: Shape>(calls: &[Call]) {
     compare_measured::<S>(calls);
     if S::NAME.starts_with("no_") {
@@ -678,7 +716,8 @@ fn compare<S: Shape>(calls: &[Call]) {
             s = good;
         }
     }
-    println!("{} and the twin agree on {OTHERS} other calls too; refusals 1 to 7: {:?}, D1 to D7: {:?}", S::NAME, &seen[0][1..8], &seen[1][1..8]);
+    let (refusals, drops) = (&seen[0][1..8], &seen[1][1..8]);
+    println!("{} and both twins agree on {OTHERS} other calls too; refusals 1 to 7: {refusals:?}, D1 to D7: {drops:?}", S::NAME);
 }
 
 fn middle(times: &mut [f64]) -> f64 {
@@ -686,13 +725,15 @@ fn middle(times: &mut [f64]) -> f64 {
     times[times.len() / 2]
 }
 
-// One row: the middle times of nothing, the twin and each shape, turn about.
-fn print_row(call: &Call, shapes: usize) {
-    let mut times = vec![vec![]; shapes + 2];
+// One row: the middle times of nothing, the twins and each shape, turn about. Answers the ratios: ours to the twin and to the plain one,
+// then each copy to the twin.
+fn print_row(call: &Call, shapes: usize) -> Vec<f64> {
+    let mut times = vec![vec![]; shapes + 3];
     for _ in 0..REPEATS {
         times[0].push(time::<Nothing>(call));
-        times[1].push(time::<Twin>(call));
-        let mut k = 2;
+        times[1].push(time::<Plain>(call));
+        times[2].push(time::<Twin>(call));
+        let mut k = 3;
         macro_rules! one {
             ($shape:ident) => {
                 times[k].push(time::<$shape>(call));
@@ -700,15 +741,29 @@ fn print_row(call: &Call, shapes: usize) {
             };
         }
         each!(one);
-        assert!(k == shapes + 2);
+        assert!(k == shapes + 3);
     }
     let times: Vec<f64> = times.iter_mut().map(|t| middle(t)).collect();
-    let (nothing, twin, ours) = (times[0], times[1], times[2]);
+    let [nothing, plain, twin, ours] = times[..4] else { unreachable!() };
+    let mut ratios = vec![ours / twin, ours / plain];
     // where half of the twin's time and more is the measuring's, taking that off leaves too little to divide
     let net = if 2.0 * nothing < twin { format!("{:.2}", (ours - nothing) / (twin - nothing)) } else { "-".to_string() };
-    print!("{:28}{ours:>8.1}{twin:>8.1}{:>7.2}{nothing:>9.1}{net:>6}{:>8.1}", call.name, ours / twin, 1e3 / ours);
-    for t in &times[3..] {
+    print!("{:28}{ours:>8.1}{twin:>8.1}{:>7.2}{plain:>8.1}{:>7.2}", call.name, ratios[0], ratios[1]);
+    print!("{nothing:>9.1}{net:>6}{:>8.1}", 1e3 / ours);
+    for t in &times[4..] {
+        ratios.push(t / twin);
         print!("{t:>10.1}{:>7.2}", t / twin);
+    }
+    println!();
+    ratios
+}
+
+// The geometric mean of each column of ratios.
+fn print_means(rows: &[Vec<f64>]) {
+    let mean = |k: usize| (rows.iter().map(|r| r[k].ln()).sum::<f64>() / rows.len() as f64).exp();
+    print!("{:28}{:>8}{:>8}{:>7.2}{:>8}{:>7.2}{:>9}{:>6}{:>8}", "geometric mean of the ratios", "", "", mean(0), "", mean(1), "", "", "");
+    for k in 2..rows[0].len() {
+        print!("{:>10}{:>7.2}", "", mean(k));
     }
     println!();
 }
@@ -725,14 +780,14 @@ fn main() {
     }
     each!(name);
     println!("\n{peers} peers; nanoseconds a call, the middle of {REPEATS} times {CALLS} calls, turn about; buffers are not cleared between calls");
-    println!("ratio: ours over the twin; nothing: a call that does nothing, measured the same way; net: the ratio with that taken off both;");
-    println!("M/s: million calls a second on one core, ours, so for a frame of 64 octets million frames a second\n");
-    print!("{:28}{:>8}{:>8}{:>7}{:>9}{:>6}{:>8}", "call", names[0], "twin", "ratio", "nothing", "net", "M/s");
+    println!("ratio: ours over the twin, then ours over the plain twin; nothing: a call that does nothing, measured the same way;");
+    println!("net: the first ratio with that taken off both; M/s: million calls a second on one core, ours, so for a frame of 64 octets");
+    println!("million frames a second; a copy's ratio is to the twin\n");
+    print!("{:28}{:>8}{:>8}{:>7}{:>8}{:>7}{:>9}{:>6}{:>8}", "call", names[0], "twin", "ratio", "plain", "ratio", "nothing", "net", "M/s");
     for name in &names[1..] {
         print!("{name:>10}{:>7}", "ratio");
     }
     println!();
-    for call in &calls {
-        print_row(call, names.len());
-    }
+    let rows: Vec<Vec<f64>> = calls.iter().map(|call| print_row(call, names.len())).collect();
+    print_means(&rows);
 }

@@ -1,4 +1,4 @@
--- What a loop has shown after i turns that compares two lists, or looks for a number or for one that stands twice. Assumes nothing.
+-- What a loop has shown after i turns that compares two lists, or looks for a number. Assumes nothing.
 use Prim.Native.Nat.{ℕ, suc, _+_, _≤_, _<_, zero-le}
 use mathlib.Core.Path.{_≡_, refl, sym, ap, _∙_}
 use mathlib.Core.List.{List, [], _∷_}
@@ -8,7 +8,7 @@ use native.Mathlib.Numerals.{add-one, one-add}
 use lib.ListN.{length, getD, drop, drop-of-length-le}
 use lib.Seq.{drop-cons}
 use borrow.Author.Tests.{eq-eqb, ne-eqb}
-use Rattle.base_laws.specs.Lists.{everyPair, absent, distinct, placeOf}
+use Rattle.base_laws.specs.Lists.{everyPair, placeOf}
 
 -- ── two lists compared, pair by pair, with no way out ──
 
@@ -50,17 +50,6 @@ pair-lengths test (x ∷ l) (y ∷ m) n = rw (pair-lengths test l m (λ e. n (ap
     no : (b : Bool) → (b && false) ≡ false
     no true = refl
     no false = refl
-
--- ── no number twice ──
-
-pub distinct-turn : (l : List ℕ) (i : ℕ) → i < length l
-    → distinct (drop i l) ≡ (absent (getD l i 0) (drop (i + 1) l) && distinct (drop (i + 1) l))
-unfolding distinct
-distinct-turn l i h = rw (add-one, drop-cons l i 0 h)
-
-pub distinct-end : (l : List ℕ) (i : ℕ) → length l ≤ i → distinct (drop i l) ≡ true
-unfolding distinct
-distinct-end l i h = rw (drop-of-length-le l h)
 
 -- ── a place looked for ──
 

@@ -1,15 +1,13 @@
--- What a loop that tests each element of a list has shown after i turns: with a way out, with none, and from a place on. Assumes nothing.
-use Prim.Native.Nat.{ℕ, suc, _+_, _-_, _≤_, _<_, zero-le}
-use mathlib.Core.Path.{_≡_, refl, sym, _∙_}
+-- What a loop that tests each element of a list has shown after i turns: with a way out, with none, and from its end down. Assumes nothing.
+use Prim.Native.Nat.{ℕ, _+_, _-_, _≤_, _<_, zero-le}
+use mathlib.Core.Path.{_≡_, refl, sym, ap, _∙_}
 use mathlib.Core.List.{List}
-use mathlib.Core.Bool.{Bool, true, false, _&&_, _||_, and-true, and-assoc}
-use native.Mathlib.Nat.{sub-zero}
+use mathlib.Core.Bool.{Bool, true, false, _&&_, and-true, and-assoc, and-comm}
+use mathlib.Core.Logic.{_⊎_, inl, inr, ⊎-elim}
 use native.Mathlib.Omega.{arith}
 use native.Mathlib.Numerals.{add-one}
-use lib.Dec.{ltb}
 use lib.ListN.{length, getD, take, drop, drop-of-length-le, length-drop}
-use lib.Seq.{drop-cons, drop-nil, take-all}
-use borrow.Author.Tests.{ltb-true, ltb-false}
+use lib.Seq.{drop-cons, take-all}
 use Rattle.base_laws.specs.Lists.{every}
 
 -- the part `&l[n..]` of a slice
@@ -63,40 +61,38 @@ module _ {A : Type 0} {test : A → Bool} {l : List A} where
     unfolding every
     joined-all h = sym (v .rest ∙ rw (drop-of-length-le l h) (and-true good))
 
--- ── the same from place n on, what stands before it passed over ──
+-- ── the same from the last element down to place n, what stands before it not looked at ──
 
-pub record JoinedFrom {A : Type 0} (test : A → Bool) (n : ℕ) (l : List A) (good : Bool) (i : ℕ) : Type 0 where
-  pub low : i ≤ length l
-  pub rest : every test (drop n l) ≡ (good && every test (drop (n - i) (drop i l)))
-
-from-turn : {A : Type 0} (test : A → Bool) (n : ℕ) (l : List A) (i : ℕ) (d : A) → i < length l
-    → every test (drop (n - i) (drop i l)) ≡ ((ltb i n || test (getD l i d)) && every test (drop (n - (i + 1)) (drop (i + 1) l)))
-unfolding every
-from-turn test n l i d h = turn (ltb i n) refl
-  where
-    turn : (b : Bool) → ltb i n ≡ b → every test (drop (n - i) (drop i l))
-        ≡ ((b || test (getD l i d)) && every test (drop (n - (i + 1)) (drop (i + 1) l)))
-    turn true e =
-        let k : n - i ≡ suc (n - (i + 1)) = omega (arith, ltb-true i n e) in
-        rw (k, drop-cons l i d h, add-one)
-    turn false e =
-        let j : n - i ≡ 0 = omega (arith, ltb-false i n e) in
-        let k : n - (i + 1) ≡ 0 = omega (arith, ltb-false i n e) in
-        rw (j, k, drop-cons l i d h, add-one)
+pub record JoinedDown {A : Type 0} (test : A → Bool) (n : ℕ) (l : List A) (good : Bool) (i : ℕ) : Type 0 where
+  pub high : i ≤ length l
+  -- where there is nothing from place n on, nothing is looked at
+  pub down : (n ≤ i) ⊎ (i ≡ length l)
+  pub done : good ≡ every test (drop i l)
 
 module _ {A : Type 0} {test : A → Bool} {n : ℕ} {l : List A} where
-  pub from-start : JoinedFrom test n l true 0
-  from-start = record { low = zero-le; rest = rw (sub-zero n) }
+  pub down-start : JoinedDown test n l true (length l)
+  unfolding every
+  down-start =
+      let h : length l ≤ length l = omega arith in
+      record { high = h; down = inr refl; done = rw (drop-of-length-le l h) }
 
-  module _ {good : Bool} {i : ℕ} (v : JoinedFrom test n l good i) where
-    pub from-next : (d : A) → i < length l → JoinedFrom test n l (good && (ltb i n || test (getD l i d))) (i + 1)
-    from-next d h = record {
-      low = omega arith;
-      rest =
-          v .rest ∙ rw (from-turn test n l i d h) (sym
-          (and-assoc good (ltb i n || test (getD l i d)) (every test (drop (n - (i + 1)) (drop (i + 1) l)))));
-    }
+  module _ {good : Bool} {i : ℕ} (v : JoinedDown test n l good i) (h : n < i) where
+    pub down-next : (d : A) → JoinedDown test n l (good && test (getD l (i - 1) d)) (i - 1)
+    down-next d =
+        let k : i - 1 + 1 ≡ i = omega arith in
+        let x = test (getD l (i - 1) d) in
+        record {
+          high = omega (arith, v .high);
+          down = inl (omega arith);
+          done = ap (λ (b : Bool). b && x) (v .done) ∙ and-comm (every test (drop i l)) x
+              ∙ ap (λ (j : ℕ). x && every test (drop j l)) (sym k) ∙ sym (every-turn test l (i - 1) d (omega (arith, v .high)));
+        }
 
-    pub from-all : length l ≤ i → good ≡ every test (drop n l)
-    unfolding every
-    from-all h = sym (v .rest ∙ rw (drop-of-length-le l h, drop-nil (n - i)) (and-true good))
+  pub down-all : {good : Bool} {i : ℕ} → JoinedDown test n l good i → i ≤ n → good ≡ every test (drop n l)
+  unfolding every
+  down-all {i = i} v h =
+      v .done ∙ ⊎-elim
+      (λ (k : n ≤ i). let e : i ≡ n = omega arith in ap (λ (j : ℕ). every test (drop j l)) e)
+      (λ (k : i ≡ length l). let a : length l ≤ i = omega arith in let b : length l ≤ n = omega arith in
+      ap (every test) (drop-of-length-le l a ∙ sym (drop-of-length-le l b)))
+      (v .down)

@@ -34,6 +34,13 @@ split a b = both-true a b .0
 pub join : (a b : Bool) → a ≡ true → b ≡ true → (a && b) ≡ true
 join a b h k = both-true a b .1 (h, k)
 
+-- tests one behind the other: one that holds leaves it to the rest, and the first that fails decides
+pub passes : {a b r : Bool} → a ≡ true → r ≡ b → r ≡ (a && b)
+passes h e = rw h e
+
+pub stops : (a b : Bool) → a ≡ false → false ≡ (a && b)
+stops a b h = rw h
+
 pub either-true : (a b : Bool) → ((a || b) ≡ true) ↔ ((a ≡ true) ⊎ (b ≡ true))
 either-true true b = (λ h. inl refl, λ h. refl)
 either-true false b = (λ h. inr h, ⊎-elim (λ h. absurd (false≢true h)) (λ h. h))

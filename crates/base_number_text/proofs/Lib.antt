@@ -1,3 +1,5 @@
 pub mod Put
 pub mod Digits
 pub mod Decimal
+pub mod Last
+pub mod Before

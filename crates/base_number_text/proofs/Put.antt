@@ -1,13 +1,13 @@
 -- The statements of specs/Put.antt. Assumes nothing.
 use Prim.Native.Nat.{ℕ, _+_, _≤_, _<_}
 use mathlib.Core.Path.{_≡_, sym, _∙_}
-use mathlib.Core.List.{List, _∷_, _++_}
+use mathlib.Core.List.{List, _++_}
 use mathlib.Core.Logic.{_⊎_, inl, inr, ⊎-elim}
 use native.Mathlib.Omega.{arith}
-use lib.ListN.{length, getD, set, length-append}
+use lib.ListN.{length, getD, length-append}
 use borrow.Author.Tests.{le-leb, lt-leb, leb-true, leb-false}
 use Rattle.base_laws.specs.Lists.{part, laid}
-use Rattle.base_laws.proofs.Overlaid.{laid-back, length-laid, laid-others, laid-append, laid-before}
+use Rattle.base_laws.proofs.Overlaid.{laid-back, length-laid, laid-others, laid-append}
 use Rattle.base_laws.proofs.Tests.{known}
 use Rattle.base_number_text.specs.Put.{fits, putAt, behind, Puts}
 
@@ -72,24 +72,6 @@ module _ (at : ℕ) (text more s : List ℕ) (h : at + length (text ++ more) ≤
   put-joined-place =
       rw (put-place at text s first, put-place _ more (putAt at text s) then, put-place at (text ++ more) s h)
       (omega (arith, length-append text more))
-
--- one octet before a text, which is put first: it goes there where the text has come, and so the place has moved
-module _ (at x : ℕ) (text s : List ℕ) (some : 1 ≤ length text) where
-  pub put-before : (behind (at + 1) text s ≡ at + 1 → ⊥)
-      → (set (putAt (at + 1) text s) at x ≡ putAt at (x ∷ text) s) × (behind (at + 1) text s ≡ behind at (x ∷ text) s)
-  put-before n =
-      let h : at + 1 + length text ≤ length s = ⊎-elim (λ h. h) (λ h. absurd (n (put-stays (at + 1) text s h))) (cases (at + 1) text s) in (
-        rw (put-laid (at + 1) text s h, put-laid at (x ∷ text) s (omega arith)) (laid-before at text s x h),
-        rw (put-place (at + 1) text s h, put-place at (x ∷ text) s (omega arith)) (omega arith),
-      )
-
-  pub put-not-before : behind (at + 1) text s ≡ at + 1 → (putAt (at + 1) text s ≡ putAt at (x ∷ text) s) × (at ≡ behind at (x ∷ text) s)
-  put-not-before e =
-      let h : length s < at + 1 + length text = ⊎-elim (λ h. absurd (omega (arith, put-place (at + 1) text s h))) (λ h. h)
-      (cases (at + 1) text s) in (
-        rw (put-untouched (at + 1) text s h, put-untouched at (x ∷ text) s (omega arith)),
-        sym (put-stays at (x ∷ text) s (omega arith)),
-      )
 
 pub puts : Puts
 puts = record {

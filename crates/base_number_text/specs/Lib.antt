@@ -1,2 +1,3 @@
-pub mod Put
 pub mod Decimal
+pub mod Put
+pub mod Before

@@ -1,3 +1,4 @@
 pub mod Turns
 pub mod Sign
+pub mod Putting
 pub mod One

@@ -1,7 +1,8 @@
 // Runs of words: held to a bound, and searched.
-// The test that stands in every call, all_within, goes to the end without a way out: a loop of a fixed length becomes a few vector
-// instructions.
+// Two tests stand in every call. all_within goes to the end without a way out: a loop of a fixed length becomes a few vector instructions.
+// zero_from goes down from the last word and joins words, not tests: its turns are then laid out one behind the other.
 ghost use mathlib.Core.Path.{_≡_};
+ghost use lib.ListN.{drop};
 ghost use Rattle.base_laws.specs.Lists.{every, placeOf};
 ghost use Rattle.base_words.specs.Words.{within};
 
@@ -16,6 +17,19 @@ pub fn all_within(words: &[u32], most: u32) -> bool
         i += 1;
     }
     good
+}
+
+// Tells whether every word from a place on is 0.
+pub fn zero_from(words: &[u32], from: usize) -> bool
+    ensures { λ r. ⌜ r ≡ every (within 0) (drop from (now (words .entry))) ⌝ }
+{
+    let mut rest: u32 = 0;
+    let mut i: usize = words.len();
+    while from < i {
+        i -= 1;
+        rest = rest | words[i];
+    }
+    rest == 0
 }
 
 // The place of the first x, or how many words there are where x is none of them.

@@ -5,6 +5,7 @@ use Prim.Native.Nat.{ℕ}
 use mathlib.Core.Path.{_≡_}
 use mathlib.Core.Bool.{cond}
 use mathlib.Core.List.{List}
+use lib.Dec.{eqb}
 use lib.IntN.{pos}
 use lib.ListN.{replicate, set}
 use Rattle.base_laws.specs.Lists.{onFirst}
@@ -21,6 +22,7 @@ use Rattle.call_setting.specs.declared.SettingAnswer.the-variants.{Inval
 use Rattle.call_setting.specs.declared.SettingTold.{SettingTold}
 use Rattle.call_setting.specs.Told.{settingTold}
 use Rattle.call_setting.specs.declared.Started.{Started}
+use Rattle.call_setting.specs.declared.NewBox.{NewBox}
 
 abbrev pub startOf : Settings → State
 startOf s = record {
@@ -89,6 +91,13 @@ settingOf words names ids = cond (valid (settingsOf words names ids)) (startedWi
 
 abbrev pub settingNumbers : Settings → SettingTold
 settingNumbers s = cond (valid s) (record { refusal = 0 }) (record { refusal = 4 })
+
+-- what a new setting hands out, its answer by its number, and the answer that a number tells
+abbrev pub boxOf : Started → NewBox
+boxOf s = record { refusal = settingTold (s .answer) .refusal; state = s .state }
+
+abbrev pub answerTold : ℕ → SettingAnswer
+answerTold refusal = cond (eqb refusal 0) Set Invalid
 
 -- a valid setting starts well formed; the all-zero state is not well formed; the answer, and the state that the returned arrays show
 -- (`state_view.shown`), are those of the setting (`call_setting.answerOf`, `call_setting.afterSetting`)

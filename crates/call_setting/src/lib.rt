@@ -8,7 +8,7 @@ ghost use mathlib.Core.Path.{_≡_};
 ghost use Rattle.base_laws.specs.Lists.{onFirst};
 ghost use Rattle.state_settings.specs.Settings.{slots, lentSettings, Shaped};
 ghost use Rattle.call_setting.specs.Told.{settingTold};
-ghost use Rattle.call_setting.specs.Start.{noState, startedWith, settingOf, settingNumbers};
+ghost use Rattle.call_setting.specs.Start.{noState, startedWith, settingOf, settingNumbers, boxOf, answerTold};
 use base_period::hold_of;
 use base_period::ticks_of;
 use state_settings::COUNT;
@@ -54,12 +54,19 @@ pub struct Started {
     pub state: StateArrays,
 }
 
+// The same in the paper's numbers: the refusal, or 0, and the state, all zeros beside 4.
+#[repr(C)]
+pub struct NewBox {
+    pub refusal: u32,
+    pub state: StateArrays,
+}
+
 // Refusal 4, and a state of zeros.
-fn none() -> Started
-    ensures { λ r. ⌜ r ≡ noState ⌝ }
+fn none() -> NewBox
+    ensures { λ r. ⌜ r ≡ boxOf noState ⌝ }
 {
-    Started {
-        answer: SettingAnswer::Invalid,
+    NewBox {
+        refusal: 4,
         state: StateArrays {
             set: [0; SET],
             names: [0; NAMES],
@@ -72,33 +79,33 @@ fn none() -> Started
     }
 }
 
-// Sets the used peers' timers to the hold time; all of them where the count is larger, which no valid setting's is.
+// Sets the used peers' timers to the hold time; all of them where the count is larger, which no valid setting's is. It goes over all slots,
+// so that it takes as many turns for every count.
 fn start_timers(timers: &mut [u32], count: u32, hold: u32)
     ensures { λ _. ⌜ now (timers .exit) ≡ onFirst (λ x. hold) count (now (timers .entry)) ⌝ }
 {
     let all = timers.len();
     let used = count as usize;
     let mut i: usize = 0;
-    while i < used {
-        if all <= i {
-            return;
+    while i < all {
+        if i < used {
+            timers[i] = hold;
         }
-        timers[i] = hold;
         i += 1;
     }
 }
 
 // The state that valid settings start with.
-fn begin(set: &Set, names: &Names, ids: &Slots) -> Started
-    ensures { λ r. ⌜ r ≡ startedWith (now (set .entry)) (now (names .entry)) (now (ids .entry)) ⌝ }
+fn begin(set: &Set, names: &Names, ids: &Slots) -> NewBox
+    ensures { λ r. ⌜ r ≡ boxOf (startedWith (now (set .entry)) (now (names .entry)) (now (ids .entry))) ⌝ }
 {
     let period = set[PERIOD];
     let mut timers = [0; PEERS];
     start_timers(&mut timers, set[COUNT], hold_of(period));
     let mut run = [0; RUN];
     run[NEXT] = ticks_of(period);
-    Started {
-        answer: SettingAnswer::Set,
+    NewBox {
+        refusal: 0,
         state: StateArrays {
             set: *set,
             names: *names,
@@ -111,10 +118,10 @@ fn begin(set: &Set, names: &Names, ids: &Slots) -> Started
     }
 }
 
-// Takes settings as they lie: the state that they start with, or refusal 4 and all zeros where they are not valid. It takes no old state.
-pub fn new_setting(set: &Set, names: &Names, ids: &Slots) -> Started
-    ensures { λ r. ⌜ r ≡ settingOf (now (set .entry)) (now (names .entry)) (now (ids .entry)) ⌝ }
-    ensures { λ r. ⌜ settingTold (r .answer) ≡ settingNumbers (lentSettings set names ids) ⌝ }
+// Takes settings as they lie: the state that they start with, or all zeros where they are not valid, told in the paper's numbers. It takes
+// no old state. C is handed what is made here as it lies: packed anew, it would be laid on the stack twice more.
+pub fn new_box(set: &Set, names: &Names, ids: &Slots) -> NewBox
+    ensures { λ r. ⌜ r ≡ boxOf (settingOf (now (set .entry)) (now (names .entry)) (now (ids .entry))) ⌝ }
     ensures { λ _. ⌜ Shaped slots (lentSettings set names ids) ⌝ }
 {
     // a view of an array tells its length, and costs nothing
@@ -124,4 +131,29 @@ pub fn new_setting(set: &Set, names: &Names, ids: &Slots) -> Started
         return none();
     }
     begin(set, names, ids)
+}
+
+// The answer that a number tells.
+fn answer_of(refusal: u32) -> SettingAnswer
+    ensures { λ r. ⌜ r ≡ answerTold refusal ⌝ }
+{
+    if refusal == 0 {
+        SettingAnswer::Set
+    } else {
+        SettingAnswer::Invalid
+    }
+}
+
+// The same with the answer in words.
+pub fn new_setting(set: &Set, names: &Names, ids: &Slots) -> Started
+    ensures { λ r. ⌜ r ≡ settingOf (now (set .entry)) (now (names .entry)) (now (ids .entry)) ⌝ }
+    ensures { λ r. ⌜ settingTold (r .answer) ≡ settingNumbers (lentSettings set names ids) ⌝ }
+    ensures { λ _. ⌜ Shaped slots (lentSettings set names ids) ⌝ }
+{
+    let made = new_box(set, names, ids);
+    let state = made.state;
+    Started {
+        answer: answer_of(made.refusal),
+        state,
+    }
 }

@@ -3,11 +3,19 @@
 -- off the source's own clauses. Assumes nothing.
 use mathlib.Core.Path.{_≡_, sym, _∙_}
 use denote.Ref.{now, ptr}
+use Rattle.frame_head.proofs.length_good.Reads as length-good
+use Rattle.frame_head.proofs.is_oam.Reads as is-oam
 use Rattle.frame_head.proofs.destination.Reads as destination
 use Rattle.frame_head.proofs.source.Reads as source
 use Rattle.frame_head.proofs.pdu_of.Reads as pdu-of
 use Rattle.frame_head.proofs.level.Reads as level
 use Rattle.frame_head.proofs.version.Reads as version
+
+pub length-good-one : (κs : _) (a : _) (r r′ : _) (s s′ : _) → length-good.Post κs a r s → length-good.Post κs a r′ s′ → r ≡ r′
+length-good-one κs a r r′ s s′ p q = p ∙ sym q
+
+pub is-oam-one : (κs : _) (a : _) (r r′ : _) (s s′ : _) → is-oam.Post κs a r s → is-oam.Post κs a r′ s′ → r ≡ r′
+is-oam-one κs a r r′ s s′ p q = p ∙ sym q
 
 pub destination-one : (κs : _) (a : _) (r r′ : _) (s s′ : _) → destination.Post κs a r s → destination.Post κs a r′ s′ → (now r ≡ now r′)
     × (ptr r ≡ ptr r′)

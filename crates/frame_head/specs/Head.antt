@@ -32,6 +32,10 @@ lengthGood f = leb 14 (length f) && leb (length f) 1514
 abbrev pub headLength : ℕ
 headLength = 14
 
+-- an OAM frame; what has no EtherType is none
+abbrev pub oamFrame : List ℕ → Bool
+oamFrame f = leb headLength (length f) && isOam f
+
 abbrev pub pduOf : List ℕ → List ℕ
 pduOf f = drop headLength f
 

@@ -1,18 +1,36 @@
-// A frame's head: its two addresses, where its PDU stands, and the PDU's level and version. Each function answers for any octets.
-// Nothing here knows of messages, settings or state. Every place behind the head is a place of the PDU: `HEAD_LENGTH`, the 14 octets
-// before it, is in this file alone, and `frame_head.headLength` in one file of the definitions.
+// A frame's head: its length and EtherType, its two addresses, where its PDU stands, and the PDU's level and version.
+// Each function answers for any octets. Nothing here knows of messages, settings or state. Every place behind the head is a place of the
+// PDU: `HEAD_LENGTH`, the 14 octets before it, is in this file alone, and `frame_head.headLength` in one file of the definitions.
 ghost use mathlib.Core.Path.{_≡_};
 ghost use denote.Ref.{ptr};
-ghost use Rattle.frame_head.specs.Head.{headLength, destinationOf, sourceOf, pduOf, placeOrStart, levelOf, versionOf};
+ghost use Rattle.frame_head.specs.Head.{headLength, lengthGood, oamFrame, destinationOf, sourceOf, pduOf, placeOrStart, levelOf, versionOf};
 ghost use Rattle.frame_head.specs.Addresses.{inHead};
 use base_bits::level_of;
 use base_bits::version_of;
+use base_numbers::read_big;
 
 // The octets before the PDU: destination 6, source 6, EtherType 2.
 pub const HEAD_LENGTH: usize = 14;
 
 // The longest frame, without its check sequence.
 pub const LONGEST: usize = 1514;
+
+// Whether a frame has from 14 to 1,514 octets.
+pub fn length_good(frame: &[u8]) -> bool
+    ensures { λ r. ⌜ r ≡ lengthGood (now (frame .entry)) ⌝ }
+{
+    (HEAD_LENGTH <= frame.len()) & (frame.len() <= LONGEST)
+}
+
+// Whether a frame is an OAM frame, by its EtherType; what is shorter than a head is none.
+pub fn is_oam(frame: &[u8]) -> bool
+    ensures { λ r. ⌜ r ≡ oamFrame (now (frame .entry)) ⌝ }
+{
+    if frame.len() < HEAD_LENGTH {
+        return false;
+    }
+    read_big(frame, 12, 2) == 0x8902
+}
 
 // The destination, as that part of the frame; empty, at the frame's start, where the frame is shorter than its head.
 pub fn destination(frame: &[u8]) -> &[u8]

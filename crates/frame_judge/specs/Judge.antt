@@ -6,21 +6,26 @@ use mathlib.Core.Bool.{not}
 use lib.Dec.{ltb}
 use lib.ListN.{length}
 use Rattle.base_laws.specs.Tests.{choose}
+use Rattle.frame_opcodes.specs.declared.Rule.{Rule}
 use Rattle.frame_opcodes.specs.Opcodes.{ruleOf}
 use Rattle.frame_reader_answer.specs.declared.Bad.the-variants.{Length, Short, Opcode, Offset}
 use Rattle.frame_judge.specs.declared.Head.{Head}
 use Rattle.frame_judge.specs.declared.Head.the-variants as head
 use Rattle.frame_head.specs.Head.{isOam, lengthGood, pduOf, opcodeOf, offsetOf, startOf}
 
--- D1, D3, D4, or where the TLVs start
-unfoldable pub judgePdu : List ℕ → Head
-judgePdu p =
+-- D1, D3, D4, or where the TLVs start, by a row of the table
+abbrev pub judgeBy : Rule → List ℕ → Head
+judgeBy row p =
     choose (
     (ltb (length p) 4, head.Bad Short)
-    ∷ (not (ruleOf (opcodeOf p) .known), head.Bad Opcode)
-    ∷ (ltb (offsetOf p) (ruleOf (opcodeOf p) .least), head.Bad Offset)
+    ∷ (not (row .known), head.Bad Opcode)
+    ∷ (ltb (offsetOf p) (row .least), head.Bad Offset)
     ∷ [])
     (head.Tlvs (startOf p))
+
+-- by the row of its own opcode
+unfoldable pub judgePdu : List ℕ → Head
+judgePdu p = judgeBy (ruleOf (opcodeOf p)) p
 
 -- refusal 1, D3 for a service frame, or what its PDU is
 unfoldable pub judge : List ℕ → Head

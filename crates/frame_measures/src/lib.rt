@@ -1,7 +1,10 @@
 // The fields of the messages that measure: the counts of LMM and LMR, the stamps of DMM and DMR.
-// All are 0 where the frame is bad or another message; `frame_message::message_answer` says which. No function needs anything.
+// All are 0 where the frame is bad or another message; `frame_message::message_answer` says which. No public function needs
+// anything.
 ghost use mathlib.Core.Path.{_≡_};
-ghost use Rattle.frame_measures.specs.Measures.{lossOf, delayOf};
+ghost use Prim.Native.Nat.{_≤_};
+ghost use lib.ListN.{length};
+ghost use Rattle.frame_measures.specs.Measures.{lossIn, lossOf, delayIn, delayOf};
 use base_numbers::read_big;
 use base_stamp::Stamp;
 use frame_head::pdu_of;
@@ -23,7 +26,40 @@ pub struct DelayFields {
     pub txtimestampb: Stamp,
 }
 
-// The three counts of an LMM or LMR.
+// The counts at their places in a PDU.
+fn loss_in(pdu: &[u8]) -> LossFields
+    requires { ⌜ 16 ≤ length (now pdu) ⌝ }
+    ensures { λ r. ⌜ r ≡ lossIn (now (pdu .entry)) ⌝ }
+{
+    LossFields {
+        txfcf: read_big(pdu, 4, 4),
+        rxfcf: read_big(pdu, 8, 4),
+        txfcb: read_big(pdu, 12, 4),
+    }
+}
+
+// The stamps at their places in a PDU.
+fn delay_in(pdu: &[u8]) -> DelayFields
+    requires { ⌜ 28 ≤ length (now pdu) ⌝ }
+    ensures { λ r. ⌜ r ≡ delayIn (now (pdu .entry)) ⌝ }
+{
+    DelayFields {
+        txtimestampf: Stamp {
+            seconds: read_big(pdu, 4, 4),
+            nanoseconds: read_big(pdu, 8, 4),
+        },
+        rxtimestampf: Stamp {
+            seconds: read_big(pdu, 12, 4),
+            nanoseconds: read_big(pdu, 16, 4),
+        },
+        txtimestampb: Stamp {
+            seconds: read_big(pdu, 20, 4),
+            nanoseconds: read_big(pdu, 24, 4),
+        },
+    }
+}
+
+// The counts of an LMM or LMR.
 pub fn loss_fields(frame: &[u8]) -> LossFields
     ensures { λ r. ⌜ r ≡ lossOf (now (frame .entry)) ⌝ }
 {
@@ -35,12 +71,7 @@ pub fn loss_fields(frame: &[u8]) -> LossFields
             txfcb: 0,
         };
     }
-    let pdu = pdu_of(frame);
-    LossFields {
-        txfcf: read_big(pdu, 4, 4),
-        rxfcf: read_big(pdu, 8, 4),
-        txfcb: read_big(pdu, 12, 4),
-    }
+    loss_in(pdu_of(frame))
 }
 
 // The three stamps of a DMM or DMR, of any content.
@@ -59,19 +90,5 @@ pub fn delay_fields(frame: &[u8]) -> DelayFields
             txtimestampb: zero,
         };
     }
-    let pdu = pdu_of(frame);
-    DelayFields {
-        txtimestampf: Stamp {
-            seconds: read_big(pdu, 4, 4),
-            nanoseconds: read_big(pdu, 8, 4),
-        },
-        rxtimestampf: Stamp {
-            seconds: read_big(pdu, 12, 4),
-            nanoseconds: read_big(pdu, 16, 4),
-        },
-        txtimestampb: Stamp {
-            seconds: read_big(pdu, 20, 4),
-            nanoseconds: read_big(pdu, 24, 4),
-        },
-    }
+    delay_in(pdu_of(frame))
 }

@@ -19,8 +19,8 @@ use Rattle.frame_reader_answer.specs.declared.TlvAnswer.the-variants as tlv
 use Rattle.frame_message_answer.specs.declared.MessageAnswer.{MessageAnswer}
 use Rattle.frame_message.specs.Message.{unlessBad}
 use Rattle.frame_head.specs.Head.{etherTypeOf, isOam, lengthGood, pduOf, opcodeOf, offsetOf, startOf}
-use Rattle.frame_tlvs.specs.Tlvs.{walkFrom}
-use Rattle.frame_seek.specs.Seek.{isCut, whole, inFrame}
+use Rattle.frame_tlvs.specs.Tlvs.{walkFrom, isCut}
+use Rattle.frame_seek.specs.Seek.{whole, inFrame}
 use Rattle.frame_reader.specs.Reader.{answerAt, answerOf}
 use Rattle.frame_seek.proofs.Chain.{chained, through}
 use Rattle.frame_tlvs.proofs.Steps.{past}
@@ -86,7 +86,7 @@ pub from : (f : List ℕ) (kind : ℕ) → Good f → isBad (answerOf f kind) �
 from f kind g = bad-is f kind ∙ last-word (λ b. true) f _ (g .headed) ∙ g .ends
 
 -- where the walk is not cut, there is an octet at the place where it begins
-begins : (at : ℕ) (p : List ℕ) → isCut (walkFrom 0 at p) ≡ false → at < length p
+pub begins : (at : ℕ) (p : List ℕ) → isCut (walkFrom 0 at p) ≡ false → at < length p
 begins at p e =
     ⊎-elim
     (λ (t : ltb at (length p) ≡ true). ltb-true at (length p) t)
@@ -95,10 +95,6 @@ begins at p e =
 
 pub fixed : (f : List ℕ) → Good f → 4 + ruleOf (opcodeOf (pduOf f)) .least < length (pduOf f)
 fixed f g = omega (arith, g .headed .offset, begins (startOf (pduOf f)) (pduOf f) (g .ends))
-
--- a PDU whose frame the reader lets through has its first four octets
-pub headed : (f p : List ℕ) (kind : ℕ) {a b : TlvAnswer} → p ≡ pduOf f → a ≡ answerOf f kind → a ≡ b → isBad b ≡ false → 4 ≤ length p
-headed f p kind e h k n = rw e (to f kind (ap isBad (sym h ∙ k) ∙ n) .headed .head)
 
 -- what the reader lets through is told by what stands behind it
 pub unless-good : (a : TlvAnswer) (m : MessageAnswer) → isBad a ≡ false → unlessBad a m ≡ m

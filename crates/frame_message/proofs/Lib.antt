@@ -1,5 +1,6 @@
 pub mod GoodTests
 pub mod Goods
+pub mod InPdu
 pub mod Numbers
 pub mod Shape
 pub mod There

@@ -10,8 +10,7 @@ use Rattle.frame_opcodes.specs.Opcodes.{ruleOf}
 use Rattle.frame_reader_answer.specs.declared.TlvAnswer.{TlvAnswer}
 use Rattle.frame_reader_answer.specs.declared.TlvAnswer.the-variants as answer
 use Rattle.frame_head.specs.Head.{etherTypeOf, pduOf, opcodeOf, offsetOf, startOf}
-use Rattle.frame_tlvs.specs.Tlvs.{walkFrom}
-use Rattle.frame_seek.specs.Seek.{isCut}
+use Rattle.frame_tlvs.specs.Tlvs.{walkFrom, isCut}
 use Rattle.frame_reader.specs.Reader.{answerOf, valueOf}
 
 -- what is asked before the TLVs: 1, D3 of a service frame, D1, D3, D4

@@ -9,7 +9,8 @@ use Rattle.frame_opcodes.specs.Opcodes.{ruleOf}
 use Rattle.frame_reader_answer.specs.declared.TlvAnswer.{TlvAnswer}
 use Rattle.frame_reader_answer.specs.declared.TlvAnswer.the-variants as tlv
 use Rattle.frame_head.specs.Head.{pduOf, opcodeOf, flagsOf}
-use Rattle.frame_reader.specs.Reader.{answerOf}
+use Rattle.frame_seek.specs.Seek.{seekIn}
+use Rattle.frame_reader.specs.Reader.{answerAt, answerOf}
 use Rattle.frame_message_answer.specs.declared.MessageAnswer.{MessageAnswer}
 use Rattle.frame_message_answer.specs.declared.MessageAnswer.the-variants.{Message, PeriodCode, Bad}
 
@@ -34,6 +35,10 @@ abbrev pub unlessBad : TlvAnswer → MessageAnswer → MessageAnswer
 unlessBad (tlv.Bad b) message = Bad b
 unlessBad tlv.NoSuch message = message
 unlessBad tlv.Value message = message
+
+-- of a PDU alone: D1, D3 and D4, then D5, then D7, or which message it is
+unfoldable pub messageIn : List ℕ → MessageAnswer
+messageIn p = unlessBad (answerAt (seekIn p 0)) (judgedOf (opcodeOf p) (flagsOf p))
 
 unfoldable pub messageOf : List ℕ → MessageAnswer
 messageOf f = unlessBad (answerOf f 0) (judgedOf (opcodeOf (pduOf f)) (flagsOf (pduOf f)))

@@ -1,7 +1,7 @@
 -- The rule of an opcode, case by case, and the statements of specs/Opcodes.antt. Assumes nothing.
 use Prim.Native.Nat.{ℕ, _≤_}
 use mathlib.Core.Path.{_≡_, refl, sym, ap, _∙_}
-use mathlib.Core.Bool.{Bool, true, false, not, Bool·beq, false≢true}
+use mathlib.Core.Bool.{Bool, true, false, not, _||_, Bool·beq, false≢true}
 use mathlib.Core.List.{List, [], _∷_}
 use mathlib.Core.Logic.{⊎-elim}
 use native.Mathlib.Omega.{arith}
@@ -45,6 +45,14 @@ every-row test none computed op =
     (λ (t : ltb op 48 ≡ true). below-is (λ n. test (ruleOf n)) 48 computed op (ltb-true op 48 t))
     (λ (f : ltb op 48 ≡ false). ap test (rule-far op (ltb-false op 48 f)) ∙ none)
     (if-known (ltb op 48))
+
+-- what is handled can be read
+pub handled-known : (op : ℕ) → ruleOf op .handled ≡ true → ruleOf op .known ≡ true
+unfolding ruleOf choose everyBelow
+handled-known op h = go (ruleOf op .handled) (ruleOf op .known) (every-row (λ r. not (r .handled) || r .known) refl refl op) h where
+  go : (a b : Bool) → (not a || b) ≡ true → a ≡ true → b ≡ true
+  go true b e h = e
+  go false b e h = absurd (false≢true h)
 
 -- a list of the paper and a column of the table agree at every opcode: below 48 by one computed test, and from there on nothing is listed
 module _ (column : Rule → Bool) (list : List ℕ) (none : column noRule ≡ false) (small : every (λ y. ltb y 48) list ≡ true)

@@ -18,8 +18,8 @@ use Rattle.frame_reader_answer.specs.declared.TlvAnswer.{TlvAnswer}
 use Rattle.frame_reader_answer.specs.declared.TlvAnswer.the-variants as answer
 use Rattle.frame_reader_answer.specs.declared.TlvTold.{TlvTold}
 use Rattle.frame_head.specs.Head.{pduOf, startOf}
-use Rattle.frame_tlvs.specs.Tlvs.{lengthOf, walk, walkFrom}
-use Rattle.frame_seek.specs.Seek.{isCut, wanted, whole, inFrame}
+use Rattle.frame_tlvs.specs.Tlvs.{lengthOf, walk, walkFrom, isCut}
+use Rattle.frame_seek.specs.Seek.{wanted, whole, inFrame}
 use Rattle.frame_reader.specs.Reader.{answerAt, answerOf}
 use Rattle.frame_reader_answer.specs.Told.{tellTlv, badOf, tlvTold}
 use Rattle.frame_reader.specs.Numbers.{isFound, tlvNumbers, ReaderNumbers}

@@ -14,8 +14,7 @@ use Rattle.frame_reader_answer.specs.declared.TlvAnswer.{TlvAnswer}
 use Rattle.frame_reader_answer.specs.declared.TlvAnswer.the-variants as answer
 use Rattle.frame_reader_answer.specs.declared.TlvTold.{TlvTold}
 use Rattle.frame_head.specs.Head.{isOam, lengthGood, pduOf, opcodeOf, offsetOf, startOf}
-use Rattle.frame_tlvs.specs.Tlvs.{walkFrom}
-use Rattle.frame_seek.specs.Seek.{isCut}
+use Rattle.frame_tlvs.specs.Tlvs.{walkFrom, isCut}
 use Rattle.frame_reader.specs.Reader.{answerOf}
 use Rattle.frame_reader_answer.specs.Told.{tellTlv, tlvTold}
 

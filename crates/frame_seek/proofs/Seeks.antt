@@ -1,26 +1,27 @@
 -- What a search for a TLV finds, case by case. Assumes nothing.
-use Prim.Native.Nat.{ℕ, _-_, _≤_}
-use mathlib.Core.Path.{_≡_, ap}
+use Prim.Native.Nat.{ℕ, _+_, _-_, _≤_}
+use mathlib.Core.Path.{_≡_, ap, ap₂, _∙_}
 use mathlib.Core.Bool.{true, false}
 use mathlib.Core.List.{List}
-use mathlib.Core.Logic.{⊎-elim}
 use native.Mathlib.Omega.{arith}
-use lib.Dec.{ltb}
 use lib.ListN.{length, drop, length-drop}
-use borrow.Author.Tests.{ltb-true, ltb-false}
-use Rattle.base_laws.proofs.Tests.{known}
+use borrow.Author.Tests.{not-true, not-false}
 use Rattle.frame_reader_answer.specs.declared.Bad.{Bad}
-use Rattle.frame_reader_answer.specs.declared.Bad.the-variants.{CutOff}
+use Rattle.frame_reader_answer.specs.declared.Bad.the-variants.{Length, Opcode, CutOff}
 use Rattle.frame_judge.specs.declared.Head.{Head}
 use Rattle.frame_judge.specs.declared.Head.the-variants as head
 use Rattle.frame_tlvs.specs.declared.Place.{Place}
+use Rattle.frame_tlvs.specs.declared.Place.the-variants as place
 use Rattle.frame_seek.specs.declared.Seek.{Seek}
 use Rattle.frame_seek.specs.declared.Seek.the-variants as seek
-use Rattle.frame_head.specs.Head.{headLength, pduOf}
-use Rattle.frame_tlvs.specs.Tlvs.{walkFrom}
-use Rattle.frame_judge.specs.Judge.{judge}
-use Rattle.frame_seek.specs.Seek.{isCut, wanted, whole, inFrame, seekAt, seekOf, Within}
-use Rattle.frame_judge.proofs.Judged.{frame-short}
+use Rattle.frame_head.specs.Head.{headLength, isOam, lengthGood, pduOf}
+use Rattle.frame_tlvs.specs.Tlvs.{walkFrom, isCut, tlvsWhole}
+use Rattle.frame_tlvs.proofs.Follows.{follows}
+use Rattle.frame_judge.specs.Judge.{judgePdu}
+use Rattle.frame_judge.proofs.Judged.{frame-length, frame-service, frame-oam}
+use Rattle.frame_seek.specs.Seek.{wanted, whole, inFrame, seekAt, seekIn, seekOf, Within}
+
+-- ── in a PDU ──
 
 pub whole-cut : (ending w : Place) → isCut ending ≡ true → whole ending w ≡ seek.Bad CutOff
 whole-cut ending w h = rw h
@@ -28,27 +29,48 @@ whole-cut ending w h = rw h
 pub whole-uncut : (ending w : Place) → isCut ending ≡ false → whole ending w ≡ wanted w
 whole-uncut ending w h = rw h
 
+module _ (p : List ℕ) (kind : ℕ) where
+  pub in-bad : (b : Bad) → judgePdu p ≡ head.Bad b → seekIn p kind ≡ seek.Bad b
+  unfolding seekIn
+  in-bad b e = ap (seekAt kind p) e
+
+  module _ (start : ℕ) (e : judgePdu p ≡ head.Tlvs start) where
+    pub in-tlvs : seekIn p kind ≡ whole (walkFrom 0 start p) (walkFrom kind start p)
+    unfolding seekIn
+    in-tlvs = ap (seekAt kind p) e
+
+    -- by where the walk for the type stops: the walk for the end goes the same way
+    pub in-cut : (at : ℕ) → walkFrom kind start p ≡ place.Cut at → seekIn p kind ≡ seek.Bad CutOff
+    in-cut at w = in-tlvs ∙ ap₂ whole (rw w at (follows p kind start)) w
+
+    pub in-none : (at : ℕ) → walkFrom kind start p ≡ place.End at → seekIn p kind ≡ seek.NoSuch
+    in-none at w = in-tlvs ∙ ap₂ whole (rw w at (follows p kind start)) w
+
+    module _ (at len : ℕ) (w : walkFrom kind start p ≡ place.Found at len) where
+      found : seekIn p kind ≡ whole (walkFrom 0 (at + len) p) (place.Found at len)
+      found = in-tlvs ∙ ap₂ whole (rw w at (follows p kind start)) w
+
+      pub cut-behind : tlvsWhole (at + len) p ≡ false → seekIn p kind ≡ seek.Bad CutOff
+      cut-behind h = found ∙ whole-cut (walkFrom 0 (at + len) p) (place.Found at len) (not-false (isCut (walkFrom 0 (at + len) p)) h)
+
+      pub in-value : tlvsWhole (at + len) p ≡ true → seekIn p kind ≡ seek.Value at len
+      in-value h = found ∙ whole-uncut (walkFrom 0 (at + len) p) (place.Found at len) (not-true (isCut (walkFrom 0 (at + len) p)) h)
+
+-- ── in a frame ──
+
 module _ (f : List ℕ) (kind : ℕ) where
-  pub seek-bad : (b : Bad) → judge f ≡ head.Bad b → seekOf f kind ≡ seek.Bad b
+  pub of-length : lengthGood f ≡ false → seekOf f kind ≡ seek.Bad Length
   unfolding seekOf
-  seek-bad b e = ap (λ (h : Head). inFrame (seekAt kind (pduOf f) h)) e
+  of-length h = ap (λ (j : Head). inFrame (seekAt kind (pduOf f) j)) (frame-length f h)
 
-  pub seek-tlvs : (start : ℕ) → judge f ≡ head.Tlvs start
-      → seekOf f kind ≡ inFrame (whole (walkFrom 0 start (pduOf f)) (walkFrom kind start (pduOf f)))
-  unfolding seekOf
-  seek-tlvs start e = ap (λ (h : Head). inFrame (seekAt kind (pduOf f) h)) e
+  module _ (good : lengthGood f ≡ true) where
+    pub of-service : isOam f ≡ false → seekOf f kind ≡ seek.Bad Opcode
+    unfolding seekOf
+    of-service n = ap (λ (j : Head). inFrame (seekAt kind (pduOf f) j)) (frame-service f good n)
 
--- a reason is no place
-apart : {h : Head} {b : Bad} {start : ℕ} → h ≡ head.Bad b → h ≡ head.Tlvs start → ⊥
-apart p q = let z : _≡_ {A = ℕ} 0 1 = cc in omega arith
-
--- a frame whose TLVs start somewhere has a PDU
-pub long : (f : List ℕ) (start : ℕ) → judge f ≡ head.Tlvs start → headLength ≤ length f
-long f start e =
-    ⊎-elim
-    (λ (t : ltb (length f) 14 ≡ true). absurd (apart (frame-short f (ltb-true (length f) 14 t)) e))
-    (λ (t : ltb (length f) 14 ≡ false). ltb-false (length f) 14 t)
-    (known (ltb (length f) 14))
+    pub of-pdu : isOam f ≡ true → seekOf f kind ≡ inFrame (seekIn (pduOf f) kind)
+    unfolding seekOf seekIn
+    of-pdu e = ap (λ (j : Head). inFrame (seekAt kind (pduOf f) j)) (frame-oam f good e)
 
 -- a value that lies in the PDU lies in the frame
 pub within : (f : List ℕ) (s : Seek) → headLength ≤ length f → Within (pduOf f) s → Within f (inFrame s)

@@ -2,7 +2,7 @@
 -- in this order; a service frame is D3. Definitions only.
 use Prim.Native.Nat.{ℕ, _+_, _≤_}
 use mathlib.Core.List.{List}
-use mathlib.Core.Bool.{Bool, true, false, cond}
+use mathlib.Core.Bool.{cond}
 use lib.ListN.{length}
 use Rattle.frame_reader_answer.specs.declared.Bad.the-variants.{CutOff}
 use Rattle.frame_judge.specs.declared.Head.{Head}
@@ -12,8 +12,8 @@ use Rattle.frame_tlvs.specs.declared.Place.the-variants as place
 use Rattle.frame_seek.specs.declared.Seek.{Seek}
 use Rattle.frame_seek.specs.declared.Seek.the-variants as seek
 use Rattle.frame_head.specs.Head.{behindHead, pduOf}
-use Rattle.frame_judge.specs.Judge.{judge}
-use Rattle.frame_tlvs.specs.Tlvs.{walkFrom}
+use Rattle.frame_judge.specs.Judge.{judgePdu, judge}
+use Rattle.frame_tlvs.specs.Tlvs.{walkFrom, isCut}
 
 -- a cut anywhere makes the frame bad, also behind the wanted TLV: the walk for the end decides first
 abbrev pub wanted : Place → Seek
@@ -21,17 +21,16 @@ wanted (place.Found start len) = seek.Value start len
 wanted (place.End at) = seek.NoSuch
 wanted (place.Cut at) = seek.NoSuch
 
-abbrev pub isCut : Place → Bool
-isCut (place.Cut at) = true
-isCut (place.End at) = false
-isCut (place.Found start len) = false
-
 abbrev pub whole : Place → Place → Seek
 whole ending w = cond (isCut ending) (seek.Bad CutOff) (wanted w)
 
 abbrev pub seekAt : ℕ → List ℕ → Head → Seek
 seekAt kind p (head.Bad b) = seek.Bad b
 seekAt kind p (head.Tlvs start) = whole (walkFrom 0 start p) (walkFrom kind start p)
+
+-- of a PDU alone: D1, D3, D4 or D5, no such TLV, or where in the PDU its value stands
+unfoldable pub seekIn : List ℕ → ℕ → Seek
+seekIn p kind = seekAt kind p (judgePdu p)
 
 -- what is found in the PDU, by its place in the frame
 abbrev pub inFrame : Seek → Seek

@@ -1,4 +1,5 @@
 pub mod Steps
 pub mod WalkedOver
 pub mod Agrees
+pub mod Follows
 pub mod One

@@ -4,7 +4,7 @@ use Prim.Native.Nat.{ℕ, zero, suc, _+_, _≤_, _<_}
 use mathlib.Core.Path.{_≡_}
 use mathlib.Core.List.{List, [], _∷_, _++_}
 use mathlib.Core.Option.{Option, some, none}
-use mathlib.Core.Bool.{cond}
+use mathlib.Core.Bool.{Bool, true, false, cond, not}
 use lib.Dec.{ltb, eqb}
 use lib.ListN.{length, drop}
 use Rattle.base_laws.specs.Lists.{part}
@@ -47,6 +47,16 @@ walk kind zero (t ∷ xs) at =
 -- the walk from place `at` of a PDU on
 abbrev pub walkFrom : ℕ → ℕ → List ℕ → Place
 walkFrom kind at p = walk kind 0 (drop at p) at
+
+-- the TLVs stop before their end: one is not all there, or the End TLV is missing
+abbrev pub isCut : Place → Bool
+isCut (Cut at) = true
+isCut (End at) = false
+isCut (Found start len) = false
+
+-- not D5: from place `at` of a PDU on, every TLV is all there and the End TLV comes
+abbrev pub tlvsWhole : ℕ → List ℕ → Bool
+tlvsWhole at p = not (isCut (walkFrom 0 at p))
 
 -- a value that is found lies in the PDU
 abbrev pub Inside : List ℕ → Place → Type 0

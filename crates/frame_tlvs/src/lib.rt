@@ -3,7 +3,7 @@
 // grammar, `frame_tlvs.Tlvs`, of what is there (a type, two octets of length, a value; the End TLV; padding), and as a walk that says
 // where the code stops.
 ghost use mathlib.Core.Path.{_≡_};
-ghost use Rattle.frame_tlvs.specs.Tlvs.{walkFrom, Inside};
+ghost use Rattle.frame_tlvs.specs.Tlvs.{walkFrom, Inside, tlvsWhole};
 use base_numbers::read_big;
 
 // Where a walk over the TLVs stops: at type 0, at the wanted type (its value's start and length), or at a cut.
@@ -42,4 +42,15 @@ pub fn walk(pdu: &[u8], kind: u8, start: usize) -> Place
         at = at + 3 + n;
     };
     place
+}
+
+// Whether the TLVs of a PDU are whole from a place on: each is all there, and the End TLV comes.
+pub fn tlvs_whole(pdu: &[u8], start: usize) -> bool
+    ensures { λ r. ⌜ r ≡ tlvsWhole start (now (pdu .entry)) ⌝ }
+{
+    match walk(pdu, 0, start) {
+        Place::End(_) => true,
+        Place::Found { start: _, len: _ } => true,
+        Place::Cut(_) => false,
+    }
 }

@@ -28,7 +28,7 @@ use Rattle.call_setting.specs.Told as Setting
 use Rattle.message_parts.specs.declared.parts.WrittenTold.{WrittenTold}
 use Rattle.receive_frame.specs.Frame.{frameOf}
 use Rattle.linkbox_frame.specs.Sides as C
-use Rattle.linkbox_state.specs.declared.NewBox.{NewBox}
+use Rattle.call_setting.specs.declared.NewBox.{NewBox}
 use Rattle.linkbox_state.specs.NewBox.{newBox}
 use Rattle.paper_said.specs.Calls as call
 use Rattle.paper_said.specs.Calls.{Call, Arrival, Answer, HandedOut, Outcome, OnWire}

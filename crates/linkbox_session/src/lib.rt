@@ -8,7 +8,8 @@ use loss_lent::answer;
 use loss_reading::LossTold;
 use loss_session::LossSession;
 
-// One more reading of the lent loss session: the one function that is lent a struct. It only calls and stores.
+// One more reading of the lent loss session: the one function that is lent a struct. It only calls and stores. After a refusal the session
+// is what it was and is not stored: the compiler then reads and writes on each way only what that way needs.
 #[no_mangle]
 pub extern "C" fn linkbox_measure(
     session: &mut LossSession,
@@ -20,6 +21,8 @@ pub extern "C" fn linkbox_measure(
     ensures { λ t. ⌜ Lent (now (session .entry)) (readings txf rxf txb ours) t (now (session .exit)) ⌝ }
 {
     let u = answer(*session, txf, rxf, txb, ours);
-    *session = u.session;
+    if u.told.refusal == 0 {
+        *session = u.session;
+    }
     u.told
 }

@@ -2,8 +2,8 @@
 use Prim.Native.Nat.{ℕ}
 use mathlib.Core.List.{List}
 use Rattle.state_settings.specs.Settings.{settingsOf}
+use Rattle.call_setting.specs.declared.NewBox.{NewBox}
 use Rattle.call_setting.specs.Start.{settingOf, settingNumbers}
-use Rattle.linkbox_state.specs.declared.NewBox.{NewBox}
 
 abbrev pub newBox : List ℕ → List ℕ → List ℕ → NewBox
 newBox words names ids = record { refusal = settingNumbers (settingsOf words names ids) .refusal; state = settingOf words names ids .state }

@@ -12,19 +12,12 @@ ghost use Rattle.call_clear.specs.Clear.{clearOf, clearTold};
 ghost use Rattle.call_conditions.specs.Conditions.{conditionsOf};
 ghost use Rattle.linkbox_state.specs.NewBox.{newBox};
 use call_conditions::ConditionsTold;
+use call_setting::NewBox;
 use state_settings::Names;
 use state_settings::Set;
 use state_settings::Slots;
 use state_view::Run;
-use state_view::StateArrays;
 use state_view::Totals;
-
-// What a new setting is answered: 0, or refusal 4; and the state that it hands out, all zeros beside 4.
-#[repr(C)]
-pub struct NewBox {
-    pub refusal: u32,
-    pub state: StateArrays,
-}
 
 // A new setting, from settings that are only read. The caller takes the state over, or leaves it where it is refused.
 #[no_mangle]
@@ -32,14 +25,7 @@ pub extern "C" fn linkbox_new_setting(set: &Set, names: &Names, ids: &Slots) -> 
     ensures { λ r. ⌜ r ≡ newBox (now (set .entry)) (now (names .entry)) (now (ids .entry)) ⌝ }
     ensures { λ _. ⌜ Shaped slots (lentSettings set names ids) ⌝ }
 {
-    let started = call_setting::new_setting(set, names, ids);
-    let answer = started.answer;
-    let state = started.state;
-    let told = call_setting::tell(answer);
-    NewBox {
-        refusal: told.refusal,
-        state,
-    }
+    call_setting::new_box(set, names, ids)
 }
 
 // A clear of the loss session; tells 0, or refusal 2.

@@ -66,18 +66,27 @@ fn all_zero(r: Readings) -> bool
     (r.txf == 0) & (r.rxf == 0) & (r.txb == 0) & (r.ours == 0)
 }
 
-// Whether the paper's rules on kept reading, intervals and totals hold.
+// Whether the paper's rules on kept reading, intervals and totals hold. It is out at the first rule that fails; and where a good session
+// comes from this test, the compiler knows by the way it came whether a reading is kept, and does not look again.
 pub fn well_formed(s: LossSession) -> bool
     ensures { λ r. ⌜ r ≡ wellFormed s ⌝ }
 {
-    let last = s.last;
-    let zero = all_zero(last);
-    let near = size(s.near);
-    let far = size(s.far);
     let most = (s.intervals as u64) * 4294967295;
-    (s.kept <= 1)
-        & (s.intervals <= MOST_INTERVALS)
-        & ((s.kept == 1) | ((s.intervals == 0) & zero))
-        & (near <= most)
-        & (far <= most)
+    if MOST_INTERVALS < s.intervals {
+        return false;
+    }
+    if most < size(s.near) {
+        return false;
+    }
+    if most < size(s.far) {
+        return false;
+    }
+    if s.kept == 1 {
+        return true;
+    }
+    if 1 < s.kept {
+        return false;
+    }
+    let last = s.last;
+    (s.intervals == 0) & all_zero(last)
 }

@@ -18,8 +18,8 @@ use Rattle.frame_tlvs.specs.declared.Place.the-variants.{End}
 use Rattle.frame_reader_answer.specs.declared.TlvAnswer.{TlvAnswer}
 use Rattle.frame_reader_answer.specs.declared.TlvAnswer.the-variants.{NoSuch}
 use Rattle.frame_head.specs.Head.{destinationOf, sourceOf, pduOf, levelOf, versionOf, opcodeOf, flagsOf, offsetOf, startOf}
-use Rattle.frame_tlvs.specs.Tlvs.{walkFrom}
-use Rattle.frame_seek.specs.Seek.{isCut, whole, inFrame}
+use Rattle.frame_tlvs.specs.Tlvs.{walkFrom, isCut}
+use Rattle.frame_seek.specs.Seek.{whole, inFrame}
 use Rattle.frame_reader.specs.Reader.{answerAt, answerOf}
 use Rattle.frame_seek.proofs.Chain.{through}
 use Rattle.frame_tlvs.proofs.Steps.{ended}

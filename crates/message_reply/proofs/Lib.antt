@@ -1,3 +1,4 @@
+pub mod Blocks
 pub mod Laid
 pub mod Numbers
 pub mod One

@@ -14,9 +14,8 @@ use Rattle.base_laws.proofs.Tests.{known as if-known}
 use Rattle.base_octets.specs.Octets.{Octets}
 use Rattle.base_numbers.specs.Numbers.{number, inOctets, numberLowestFirst, octetsLowestFirst}
 use Rattle.frame_opcodes.specs.Opcodes.{ruleOf}
-use Rattle.frame_tlvs.specs.Tlvs.{end, one, firstOf, walkFrom}
+use Rattle.frame_tlvs.specs.Tlvs.{end, one, firstOf, walkFrom, isCut}
 use Rattle.frame_head.specs.Head.{etherTypeOf, pduOf, opcodeOf, offsetOf, startOf}
-use Rattle.frame_seek.specs.Seek.{isCut}
 use Rattle.frame_judge.specs.declared.Head.the-variants as head
 use Rattle.paper_said.specs.Drops.{ais}
 use Rattle.paper_said.proofs.Messages.{run-ends, ends-run, behind}

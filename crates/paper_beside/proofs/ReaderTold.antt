@@ -6,12 +6,12 @@ use mathlib.Core.Bool.{true, false}
 use mathlib.Core.Option.{Option, some, none}
 use mathlib.Core.Logic.{⊎-elim}
 use native.Mathlib.Omega.{arith}
-use lib.Dec.{ltb}
+use lib.Dec.{leb}
 use lib.Seq.{drop-drop}
 use lib.ListN.{length, take, length-drop}
-use borrow.Author.Tests.{ltb-true, ltb-false}
+use borrow.Author.Tests.{leb-true, le-leb, eq-eqb, ne-eqb}
 use Rattle.base_laws.specs.Lists.{part}
-use Rattle.base_laws.proofs.Tests.{known as if-known}
+use Rattle.base_laws.proofs.Tests.{known as if-known, both-true}
 use Rattle.base_octets.specs.Octets.{Octets}
 use Rattle.frame_tlvs.specs.declared.Place.{Place}
 use Rattle.frame_tlvs.specs.declared.Place.the-variants as place
@@ -20,12 +20,13 @@ use Rattle.frame_tlvs.proofs.Agrees.{walk-agrees}
 use Rattle.frame_reader_answer.specs.declared.Bad.{Bad}
 use Rattle.frame_reader_answer.specs.declared.Bad.the-variants.{Length, Short, Opcode, Offset}
 use Rattle.frame_seek.specs.declared.Seek.{Seek}
-use Rattle.frame_head.specs.Head.{etherTypeOf, pduOf, opcodeOf, offsetOf, startOf}
-use Rattle.frame_judge.specs.Judge.{judgePdu, judge}
+use Rattle.frame_seek.specs.declared.Seek.the-variants as seek
+use Rattle.frame_head.specs.Head.{etherTypeOf, lengthGood, pduOf, opcodeOf, offsetOf, startOf}
+use Rattle.frame_judge.specs.Judge.{judgePdu}
 use Rattle.frame_seek.specs.Seek.{wanted, whole, inFrame, seekOf}
 use Rattle.frame_reader.specs.Reader.{answerAt, partOf, answerOf, valueOf}
-use Rattle.frame_judge.proofs.Judged.{pdu-short, pdu-opcode, pdu-offset, pdu-tlvs, frame-short, frame-long, frame-service, frame-oam}
-use Rattle.frame_seek.proofs.Seeks.{seek-bad, seek-tlvs, whole-cut, whole-uncut}
+use Rattle.frame_judge.proofs.Judged.{pdu-short, pdu-opcode, pdu-offset, pdu-tlvs}
+use Rattle.frame_seek.proofs.Seeks.{whole-cut, whole-uncut, in-bad, in-tlvs, of-length, of-service, of-pdu}
 use Rattle.frame_judge.specs.declared.Head.the-variants as head
 use Rattle.paper_said.proofs.Messages.{run-ends, no-run-cuts, behind}
 use Rattle.paper_beside.specs.Reader.{Long, OamFrame, InTable, Offered, TlvsOf, ReaderTells, refused, dropped, value, no-such}
@@ -40,9 +41,14 @@ seekTells : List ℕ → Seek → ReaderTells
 seekTells f s = readerTells (answerAt s) (partOf f s)
 
 module _ (f : List ℕ) (kind : ℕ) where
-  bad : (b : Bad) → judge f ≡ head.Bad b → ourReader f kind ≡ badTells b
+  -- a reason that the search gives
+  bad : (b : Bad) → seekOf f kind ≡ seek.Bad b → ourReader f kind ≡ badTells b
   unfolding answerOf valueOf seekTells
-  bad b e = ap (seekTells f) (seek-bad f kind b e)
+  bad b e = ap (seekTells f) e
+
+  -- a reason that stands before the TLVs of its PDU
+  bad-pdu : (b : Bad) → lengthGood f ≡ true → etherTypeOf f ≡ 0x8902 → judgePdu (pduOf f) ≡ head.Bad b → ourReader f kind ≡ badTells b
+  bad-pdu b g e j = bad b (of-pdu f kind g (eq-eqb (etherTypeOf f) 0x8902 e) ∙ ap inFrame (in-bad (pduOf f) kind b j))
 
 -- what is told of a value, or of none
 optionTells : Option (List ℕ) → ReaderTells
@@ -62,42 +68,40 @@ module _ (f : List ℕ) (kind : ℕ) where
   told-1 : (Long f → ⊥) → ourReader f kind ≡ refused 1
   told-1 n =
       ⊎-elim
-      (λ (t : ltb (length f) 14 ≡ true). bad f kind Length (frame-short f (ltb-true (length f) 14 t)))
-      (λ (t : ltb (length f) 14 ≡ false).
-      let l = ltb-false (length f) 14 t in
-      ⊎-elim
-      (λ (u : ltb 1514 (length f) ≡ true). bad f kind Length (frame-long f l (ltb-true 1514 (length f) u)))
-      (λ (u : ltb 1514 (length f) ≡ false). absurd (n (record { least = l; most = ltb-false 1514 (length f) u })))
-      (if-known (ltb 1514 (length f))))
-      (if-known (ltb (length f) 14))
+      (λ (t : lengthGood f ≡ true).
+      let p = both-true (leb 14 (length f)) (leb (length f) 1514) .0 t in
+      absurd (n (record { least = leb-true 14 (length f) (p .0); most = leb-true (length f) 1514 (p .1) })))
+      (λ (t : lengthGood f ≡ false). bad f kind Length (of-length f kind t))
+      (if-known (lengthGood f))
 
   module _ (l : Long f) where
+    good : lengthGood f ≡ true
+    good = both-true (leb 14 (length f)) (leb (length f) 1514) .1 (le-leb 14 (length f) (l .least), le-leb (length f) 1514 (l .most))
+
     told-service : (etherTypeOf f ≡ 0x8902 → ⊥) → ourReader f kind ≡ dropped 3
-    told-service n = bad f kind Opcode (frame-service f (l .least) (l .most) n)
+    told-service n = bad f kind Opcode (of-service f kind good (ne-eqb (etherTypeOf f) 0x8902 n))
 
     told-D1 : etherTypeOf f ≡ 0x8902 → length f < 18 → ourReader f kind ≡ dropped 1
-    told-D1 e h =
-        bad f kind Short (frame-oam f (l .least) (l .most) e ∙ pdu-short (pduOf f) (rw (length-drop 14 f) (omega (arith, l .least, h))))
+    told-D1 e h = bad-pdu f kind Short good e (pdu-short (pduOf f) (rw (length-drop 14 f) (omega (arith, l .least, h))))
 
   module _ (o : OamFrame f) where
-    inner : judge f ≡ judgePdu (pduOf f)
-    inner = frame-oam f (o .long .least) (o .long .most) (o .ether)
-
     four : 4 ≤ length (pduOf f)
     four = rw (length-drop 14 f) (omega (arith, o .head))
 
     told-D3 : ((least : ℕ) → InTable (opcodeOf (pduOf f)) least → ⊥) → ourReader f kind ≡ dropped 3
-    told-D3 n = bad f kind Opcode (inner ∙ pdu-opcode (pduOf f) four (not-in-table (opcodeOf (pduOf f)) n))
+    told-D3 n = bad-pdu f kind Opcode (good (o .long)) (o .ether) (pdu-opcode (pduOf f) four (not-in-table (opcodeOf (pduOf f)) n))
 
     told-D4 : (least : ℕ) → InTable (opcodeOf (pduOf f)) least → offsetOf (pduOf f) < least → ourReader f kind ≡ dropped 4
-    told-D4 least t h = bad f kind Offset (inner ∙ pdu-offset (pduOf f) four (table-known t) (rw (table-least t) h))
+    told-D4 least t h =
+        bad-pdu f kind Offset (good (o .long)) (o .ether) (pdu-offset (pduOf f) four (table-known t) (rw (table-least t) h))
 
   module _ (o : Offered f) where
     -- the search starts at the frame's own offset
     started : seekOf f kind ≡ inFrame (whole (walkFrom 0 (startOf (pduOf f)) (pduOf f)) (walkFrom kind (startOf (pduOf f)) (pduOf f)))
     started =
-        seek-tlvs f kind (startOf (pduOf f))
-        (inner (o .oam) ∙ pdu-tlvs (pduOf f) (four (o .oam)) (table-known (o .opcode)) (rw (table-least (o .opcode)) (o .offset)))
+        of-pdu f kind (good (o .oam .long)) (eq-eqb (etherTypeOf f) 0x8902 (o .oam .ether))
+        ∙ ap inFrame (in-tlvs (pduOf f) kind (startOf (pduOf f))
+        (pdu-tlvs (pduOf f) (four (o .oam)) (table-known (o .opcode)) (rw (table-least (o .opcode)) (o .offset))))
 
     told-D5 : Octets f → ((ts : List (ℕ × List ℕ)) → TlvsOf f ts → ⊥) → ourReader f kind ≡ dropped 5
     unfolding answerOf valueOf seekTells

@@ -14,10 +14,9 @@ use Rattle.frame_reader_answer.specs.declared.TlvAnswer.{TlvAnswer}
 use Rattle.frame_reader_answer.specs.declared.TlvAnswer.the-variants as tlv
 use Rattle.frame_message_answer.specs.declared.MessageAnswer.{MessageAnswer}
 use Rattle.frame_message_answer.specs.declared.MessageAnswer.the-variants.{Message}
-use Rattle.frame_tlvs.specs.Tlvs.{Tlvs}
+use Rattle.frame_tlvs.specs.Tlvs.{Tlvs, isCut}
 use Rattle.frame_tlvs.proofs.Agrees.{walk-agrees}
 use Rattle.frame_head.specs.Head.{pduOf, opcodeOf, flagsOf, offsetOf, startOf}
-use Rattle.frame_seek.specs.Seek.{isCut}
 use Rattle.frame_reader.specs.Reader.{answerOf}
 use Rattle.frame_message.specs.Good.{Headed, Good, isBad, tlvsOf}
 use Rattle.frame_message.specs.Message.{periodCode, codeGood, judgedOf, unlessBad, messageOf}

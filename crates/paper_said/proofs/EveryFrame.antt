@@ -12,8 +12,7 @@ use Rattle.base_octets.specs.Octets.{Octets}
 use Rattle.base_stamp.specs.Stamps.{good}
 use Rattle.frame_opcodes.specs.Opcodes.{ruleOf}
 use Rattle.frame_head.specs.Head.{etherTypeOf, lengthGood, offsetOf, startOf}
-use Rattle.frame_tlvs.specs.Tlvs.{walkFrom}
-use Rattle.frame_seek.specs.Seek.{isCut}
+use Rattle.frame_tlvs.specs.Tlvs.{walkFrom, isCut}
 use Rattle.frame_message.specs.Told.{goodOpcode}
 use Rattle.state_view.specs.State.{State}
 use Rattle.state_view.specs.WellFormed.{wellFormed}

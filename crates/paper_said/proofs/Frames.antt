@@ -12,8 +12,7 @@ use Rattle.base_stamp.specs.Stamps.{good}
 use Rattle.frame_opcodes.specs.Opcodes.{ruleOf}
 use Rattle.frame_reader_answer.specs.declared.Bad.the-variants.{Offset, CutOff}
 use Rattle.frame_head.specs.Head.{pduOf, opcodeOf, offsetOf, flagsOf, startOf}
-use Rattle.frame_tlvs.specs.Tlvs.{walkFrom}
-use Rattle.frame_seek.specs.Seek.{isCut}
+use Rattle.frame_tlvs.specs.Tlvs.{walkFrom, isCut}
 use Rattle.frame_message_answer.specs.declared.MessageAnswer.the-variants.{Message, PeriodCode}
 use Rattle.frame_message.specs.Message.{periodCode, codeGood, judgedOf, messageOf}
 use Rattle.state_view.specs.State.{State}

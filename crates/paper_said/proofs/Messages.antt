@@ -1,34 +1,29 @@
 -- Which message a frame is, from the paper's conditions on its octets. Assumes nothing.
 use Prim.Native.Nat.{ℕ, _+_, _≤_, _<_}
 use mathlib.Core.Path.{_≡_, refl, sym, ap, _∙_}
-use mathlib.Core.Bool.{true, false, false≢true, true≢false}
+use mathlib.Core.Bool.{true, false, not, false≢true, true≢false}
 use mathlib.Core.List.{List}
 use mathlib.Core.Logic.{⊎-elim}
 use native.Mathlib.Omega.{arith}
 use lib.Seq.{getD-drop}
 use lib.ListN.{length, drop, length-drop}
-use Rattle.base_laws.proofs.Tests.{known as if-known}
+use borrow.Author.Tests.{le-leb, eq-eqb}
+use Rattle.base_laws.proofs.Tests.{known as if-known, join}
 use Rattle.base_octets.specs.Octets.{Octets}
 use Rattle.frame_opcodes.specs.Opcodes.{ruleOf}
 use Rattle.frame_reader_answer.specs.declared.Bad.the-variants.{Offset, CutOff}
 use Rattle.frame_tlvs.specs.declared.Place.{Place}
 use Rattle.frame_tlvs.specs.declared.Place.the-variants as place
-use Rattle.frame_reader_answer.specs.declared.TlvAnswer.{TlvAnswer}
-use Rattle.frame_reader_answer.specs.declared.TlvAnswer.the-variants as tlv
 use Rattle.frame_head.specs.Head.{etherTypeOf, pduOf, opcodeOf, offsetOf, flagsOf, startOf}
-use Rattle.frame_tlvs.specs.Tlvs.{Tlvs, walkFrom}
-use Rattle.frame_seek.specs.Seek.{isCut}
-use Rattle.frame_reader.specs.Reader.{answerOf}
+use Rattle.frame_tlvs.specs.Tlvs.{Tlvs, walkFrom, isCut}
 use Rattle.frame_reader.specs.Numbers.{isFound}
-use Rattle.frame_judge.proofs.Judged.{frame-oam, pdu-offset, pdu-tlvs}
-use Rattle.frame_seek.proofs.Seeks.{seek-bad, seek-tlvs, whole-cut}
+use Rattle.frame_judge.proofs.Judged.{pdu-offset, pdu-tlvs}
 use Rattle.frame_tlvs.proofs.Agrees.{walk-agrees}
 use Rattle.frame_reader.proofs.Numbers.{not-found}
-use Rattle.frame_message_answer.specs.declared.MessageAnswer.{MessageAnswer}
 use Rattle.frame_message_answer.specs.declared.MessageAnswer.the-variants.{Bad}
-use Rattle.frame_message.specs.Good.{Headed, isBad}
-use Rattle.frame_message.specs.Message.{judgedOf, unlessBad, messageOf}
-use Rattle.frame_message.proofs.Goods.{good-frames}
+use Rattle.frame_message.specs.Good.{Headed}
+use Rattle.frame_message.specs.Message.{judgedOf, messageIn, messageOf}
+use Rattle.frame_message.proofs.InPdu.{bad-head, cut-off as pdu-cut, let-through, frame-pdu}
 
 -- the walk to the end stops at an end exactly where a run of TLVs stands
 ended : (p : Place) → isCut p ≡ false → isFound p ≡ false → (e : ℕ) × (p ≡ place.End e)
@@ -66,34 +61,24 @@ module _ (p : List ℕ) (at : ℕ) where
 pub behind : (f : List ℕ) (n : ℕ) → Octets f → Octets (drop n f)
 behind f n o i = rw (getD-drop n f i 0) (o (n + i))
 
-unless : (a : TlvAnswer) (m : MessageAnswer) → isBad a ≡ false → unlessBad a m ≡ m
-unless (tlv.Bad b) m e = absurd (false≢true (sym e))
-unless tlv.NoSuch m e = refl
-unless tlv.Value m e = refl
-
 module _ (f : List ℕ) (long : 14 ≤ length f) (most : length f ≤ 1514) (oam : etherTypeOf f ≡ 0x8902) (head : 18 ≤ length f)
     (k : ruleOf (opcodeOf (pduOf f)) .known ≡ true) where
   four : 4 ≤ length (pduOf f)
   four = rw (length-drop 14 f) (omega arith)
 
+  -- its PDU tells which message it is
+  by-pdu : messageOf f ≡ messageIn (pduOf f)
+  by-pdu = frame-pdu f (join _ _ (le-leb 14 (length f) long) (le-leb (length f) 1514 most)) (eq-eqb (etherTypeOf f) 0x8902 oam)
+
   pub offset-bad : offsetOf (pduOf f) < ruleOf (opcodeOf (pduOf f)) .least → messageOf f ≡ Bad Offset
-  unfolding messageOf answerOf
-  offset-bad h = rw (seek-bad f 0 Offset (frame-oam f long most oam ∙ pdu-offset (pduOf f) four k h))
+  offset-bad h = by-pdu ∙ bad-head (pduOf f) Offset (pdu-offset (pduOf f) four k h)
 
   module _ (h : ruleOf (opcodeOf (pduOf f)) .least ≤ offsetOf (pduOf f)) where
     pub headed : Headed f
     headed = record { shortest = long; longest = most; oam = oam; head = four; opcode = k; offset = h }
 
     pub cut-off : isCut (walkFrom 0 (startOf (pduOf f)) (pduOf f)) ≡ true → messageOf f ≡ Bad CutOff
-    unfolding messageOf answerOf
-    cut-off c =
-        rw (
-          seek-tlvs f 0 (startOf (pduOf f)) (frame-oam f long most oam ∙ pdu-tlvs (pduOf f) four k h),
-          whole-cut (walkFrom 0 (startOf (pduOf f)) (pduOf f)) (walkFrom 0 (startOf (pduOf f)) (pduOf f)) c,
-        )
+    cut-off c = by-pdu ∙ pdu-cut (pduOf f) (startOf (pduOf f)) (pdu-tlvs (pduOf f) four k h) (ap not c)
 
     pub judged : isCut (walkFrom 0 (startOf (pduOf f)) (pduOf f)) ≡ false → messageOf f ≡ judgedOf (opcodeOf (pduOf f)) (flagsOf (pduOf f))
-    unfolding messageOf
-    judged c =
-        unless (answerOf f 0) (judgedOf (opcodeOf (pduOf f)) (flagsOf (pduOf f)))
-        (good-frames .read f 0 .1 (record { headed = headed; ends = c }))
+    judged c = by-pdu ∙ let-through (pduOf f) (startOf (pduOf f)) (pdu-tlvs (pduOf f) four k h) (ap not c)

@@ -3,17 +3,19 @@ use Prim.Native.Nat.{ℕ, _≤_, _<_}
 use mathlib.Core.Path.{_≡_, refl, ap, _∙_}
 use mathlib.Core.Bool.{Bool, true, false, cond}
 use mathlib.Core.List.{List}
+use mathlib.Core.Logic.{⊎-elim}
 use native.Mathlib.Omega.{arith}
 use lib.Dec.{ltb}
 use lib.ListN.{length}
 use borrow.Author.Tests.{lt-ltb, le-ltb, le-leb, eq-eqb, ne-eqb, ltb-false}
 use Rattle.base_laws.specs.Tests.{choose}
-use Rattle.frame_head.specs.Head.{etherTypeOf, pduOf, levelOf}
+use Rattle.base_laws.proofs.Tests.{known}
+use Rattle.frame_head.specs.Head.{etherTypeOf, oamFrame, pduOf, levelOf}
 use Rattle.receive_class.specs.declared.Side.{Side}
 use Rattle.receive_class.specs.declared.Side.the-variants.{Active, Passive}
 use Rattle.receive_class.specs.declared.Class.{Class}
 use Rattle.receive_class.specs.declared.Class.the-variants.{Service, Short, Above, Inside, Below, Own}
-use Rattle.receive_class.specs.Class.{oamFrame, counted, bySide, classOf, Classes}
+use Rattle.receive_class.specs.Class.{counted, bySide, classOf, Classes}
 
 module _ (ours : ℕ) (side : Side) (f : List ℕ) where
   oam : etherTypeOf f ≡ 0x8902 → 14 ≤ length f → oamFrame f ≡ true
@@ -82,6 +84,15 @@ long ours side f = go (counted ours side f) (ltb (length f) 18) refl (ltb ours (
   go false false e true = tt
   go false false e false = side-long f ours side (levelOf (pduOf f)) (ltb-false (length f) 18 e)
 
+-- and only an OAM frame is
+only-oam : (ours : ℕ) (side : Side) (f : List ℕ) → classOf ours side f ≡ Own → oamFrame f ≡ true
+unfolding classOf choose
+only-oam ours side f e =
+    ⊎-elim
+    (λ (t : oamFrame f ≡ true). t)
+    (λ (t : oamFrame f ≡ false). absurd (let g = rw t at e in let z : _≡_ {A = ℕ} 0 1 = cc in omega arith))
+    (known (oamFrame f))
+
 pub classes : (ours : ℕ) (side : Side) (f : List ℕ) → Classes ours side f
 classes ours side f = record {
   service = service ours side f;
@@ -94,4 +105,5 @@ classes ours side f = record {
       ∙ equal ours (levelOf (pduOf f)) k;
   below-long = λ e. rw e at (long ours side f);
   own-long = λ e. rw e at (long ours side f);
+  own-oam = only-oam ours side f;
 }

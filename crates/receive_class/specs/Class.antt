@@ -2,20 +2,16 @@
 -- Definitions and the statement only.
 use Prim.Native.Nat.{ℕ, _≤_, _<_}
 use mathlib.Core.Path.{_≡_}
-use mathlib.Core.Bool.{Bool, _&&_, not, cond}
+use mathlib.Core.Bool.{Bool, true, not, cond}
 use mathlib.Core.List.{List, [], _∷_}
-use lib.Dec.{leb, ltb}
+use lib.Dec.{ltb}
 use lib.ListN.{length}
 use Rattle.base_laws.specs.Tests.{choose}
-use Rattle.frame_head.specs.Head.{headLength, behindHead, etherTypeOf, isOam, pduOf, levelOf}
+use Rattle.frame_head.specs.Head.{behindHead, etherTypeOf, oamFrame, pduOf, levelOf}
 use Rattle.receive_class.specs.declared.Side.{Side}
 use Rattle.receive_class.specs.declared.Side.the-variants.{Active, Passive}
 use Rattle.receive_class.specs.declared.Class.{Class}
 use Rattle.receive_class.specs.declared.Class.the-variants.{Service, Short, Above, Inside, Below, Own}
-
--- 89-02 is OAM; what has no EtherType is not
-abbrev pub oamFrame : List ℕ → Bool
-oamFrame f = leb headLength (length f) && isOam f
 
 -- rule 1: which frames are counted, of a box of this level, from this side: every service frame, and never an OAM frame
 abbrev pub counted : ℕ → Side → List ℕ → Bool
@@ -46,3 +42,5 @@ pub record Classes (ours : ℕ) (side : Side) (f : List ℕ) : Type 0 where
   -- what is looked at further has the four octets before a fixed part
   pub below-long : classOf ours side f ≡ Below → 18 ≤ length f
   pub own-long : classOf ours side f ≡ Own → 18 ≤ length f
+  -- and is an OAM frame
+  pub own-oam : classOf ours side f ≡ Own → oamFrame f ≡ true

@@ -3,9 +3,9 @@
 // octet of the PDU, and at nothing else. It is a step and not an answer, so it has no numbers. What is shorter than a head counts as
 // service; `receive_frame` has refused it with 1 before. The side is an enum, so a caller in Rattle has no third one.
 ghost use mathlib.Core.Path.{_≡_};
-ghost use Rattle.receive_class.specs.Class.{oamFrame, bySide, classOf};
-use base_numbers::read_big;
+ghost use Rattle.receive_class.specs.Class.{bySide, classOf};
 use frame_head::HEAD_LENGTH;
+use frame_head::is_oam;
 use frame_head::level;
 
 // Where a frame comes from: the fibre, or the equipment behind the box.
@@ -28,16 +28,6 @@ pub enum Class {
     Below,
     // Of our level, from the active side.
     Own,
-}
-
-// Whether a frame is an OAM frame; what is shorter than a head is none.
-fn is_oam(frame: &[u8]) -> bool
-    ensures { λ r. ⌜ r ≡ oamFrame (now (frame .entry)) ⌝ }
-{
-    if frame.len() < HEAD_LENGTH {
-        return false;
-    }
-    read_big(frame, 12, 2) == 0x8902
 }
 
 // What a frame that is not above our level is, by the side it comes from.

@@ -1,3 +1,4 @@
-pub mod Messages
 pub mod Own
+pub mod Looks
+pub mod OneLook
 pub mod One

@@ -1,12 +1,11 @@
--- The cases of a frame of our level, from what the code finds. Assumes nothing.
+-- The cases of a frame of our level, by what the reader says of it. Assumes nothing.
 use Prim.Native.Nat.{ℕ}
-use mathlib.Core.Path.{_≡_, sym, ap, _∙_}
+use mathlib.Core.Path.{_≡_}
 use mathlib.Core.Bool.{true, false, cond}
 use mathlib.Core.List.{List}
 use Rattle.state_settings.specs.Settings.{Settings}
 use Rattle.base_stamp.specs.declared.Stamp.{Stamp}
 use Rattle.receive_answer.specs.declared.Drop.the-variants as drop
-use Rattle.frame_opcodes.specs.declared.Rule.{Rule}
 use Rattle.frame_reader_answer.specs.declared.Bad.{Bad}
 use Rattle.frame_head.specs.Head.{pduOf, opcodeOf}
 use Rattle.frame_opcodes.specs.Opcodes.{ruleOf}
@@ -16,10 +15,6 @@ use Rattle.frame_message.specs.Message.{messageOf}
 use Rattle.receive_handle.specs.declared.Decision.the-variants.{Drops}
 use Rattle.receive_handle.specs.Handle.{handleOf}
 use Rattle.receive_decide.specs.Decide.{isOurs, dropFor, answeredOf, ownOf}
-
--- the test that was made is the definition's
-pub handled-is : (f p : List ℕ) (r : Rule) → p ≡ pduOf f → r ≡ ruleOf (opcodeOf p) → ruleOf (opcodeOf (pduOf f)) .handled ≡ r .handled
-handled-is f p r e g = sym (ap (λ (x : Rule). x .handled) (g ∙ ap (λ (x : List ℕ). ruleOf (opcodeOf x)) e))
 
 module _ (t : Settings) (f : List ℕ) (receive : Stamp) where
   pub not-handled : ruleOf (opcodeOf (pduOf f)) .handled ≡ false → ownOf t f receive ≡ Drops drop.Opcode

@@ -29,7 +29,7 @@ use Rattle.receive_handle.specs.Handle.{handleOf}
 
 -- not D6: the frame is for the box of these two addresses, ours and the loss peer's
 abbrev pub isOurs : List ℕ → List ℕ → List ℕ → Bool
-isOurs own losspeer f = forUs own losspeer (opcodeOf (pduOf f)) (levelOf (pduOf f)) (destinationOf f) (sourceOf f)
+isOurs own losspeer f = forUs own losspeer (ruleOf (opcodeOf (pduOf f))) (levelOf (pduOf f)) (destinationOf f) (sourceOf f)
 
 -- rule 1: its side's count
 unfoldable pub countOf : Side → Change

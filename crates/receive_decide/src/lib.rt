@@ -6,24 +6,30 @@
 ghost use mathlib.Core.Path.{_≡_};
 ghost use Prim.Native.Nat.{_≤_};
 ghost use lib.ListN.{length};
-ghost use Rattle.frame_head.specs.Head.{behindHead};
+ghost use mathlib.Core.Bool.{true};
+ghost use Rattle.frame_head.specs.Head.{behindHead, oamFrame, pduOf, opcodeOf};
+ghost use Rattle.frame_opcodes.specs.Opcodes.{ruleOf};
 ghost use Rattle.state_settings.specs.Settings.{lentSettings, ownNamed, losspeerNamed};
-ghost use Rattle.receive_decide.specs.Decide.{dropFor, isOurs, belowOf, ownOf, countOf, decideOf};
+ghost use Rattle.receive_decide.specs.Decide.{isOurs, belowOf, ownOf, countOf, decideOf};
+ghost use Rattle.receive_decide.specs.OneLook.{lookAt};
+use base_bits::period_code_of;
 use base_stamp::Stamp;
+use frame_head::LONGEST;
 use frame_head::destination;
 use frame_head::level;
 use frame_head::pdu_of;
 use frame_head::source;
+use frame_message::code_good;
 use frame_message::good_opcode;
-use frame_message::message_answer;
-use frame_message_answer::MessageAnswer;
+use frame_opcodes::Rule;
 use frame_opcodes::rule_of;
-use frame_reader_answer::Bad;
+use frame_tlvs::tlvs_whole;
 use receive_answer::Drop;
 use receive_change::Change;
 use receive_class::Class;
 use receive_class::Side;
 use receive_class::class_of;
+use receive_for_us::good_destination;
 use receive_for_us::is_for_us;
 use receive_handle::Decision;
 use receive_handle::handle_message;
@@ -34,76 +40,88 @@ use state_settings::Names;
 use state_settings::Set;
 use state_settings::Slots;
 
-// The drop for what the reader finds; a length outside 14 to 1,514 is refused before.
-fn drop_for(bad: Bad) -> Drop
-    ensures { λ r. ⌜ r ≡ dropFor bad ⌝ }
-{
-    match bad {
-        Bad::Length => Drop::Short,
-        Bad::Short => Drop::Short,
-        Bad::Opcode => Drop::Opcode,
-        Bad::Offset => Drop::Offset,
-        Bad::CutOff => Drop::CutOff,
-    }
+// What is found of a frame of our level: a reason to drop it, or none.
+enum Looked {
+    Drops(Drop),
+    Good,
 }
 
-// Whether a frame is for us.
-fn for_us(names: &Names, frame: &[u8]) -> bool
+// Whether a frame whose opcode has this row is for us.
+fn for_us(names: &Names, frame: &[u8], rule: Rule) -> bool
     requires { ⌜ behindHead 4 ≤ length (now frame) ⌝ }
+    requires { ⌜ rule ≡ ruleOf (opcodeOf (pduOf (now frame))) ⌝ }
     ensures { λ r. ⌜ r ≡ isOurs (ownNamed (now (names .entry))) (losspeerNamed (now (names .entry))) (now (frame .entry)) ⌝ }
 {
     let all: &[u8] = names;
-    let pdu = pdu_of(frame);
     let to = destination(frame);
     let from = source(frame);
     is_for_us(
         &all[..LOSSPEER],
         &all[LOSSPEER..MEG],
-        pdu[1],
+        rule,
         level(frame),
         to,
         from,
     )
 }
 
-// Rule 3: a frame of a lower level is dropped; a good CCM for us is remembered.
+// Rule 3: a frame of a lower level is dropped; a good CCM for us is remembered. A CCM may come from anybody.
 fn below(names: &Names, frame: &[u8]) -> Decision
     requires { ⌜ behindHead 4 ≤ length (now frame) ⌝ }
     ensures { λ r. ⌜ r ≡ belowOf (ownNamed (now (names .entry))) (losspeerNamed (now (names .entry))) (now (frame .entry)) ⌝ }
 {
-    let ccm = good_opcode(frame) == 1;
-    if ccm & for_us(names, frame) {
+    let all: &[u8] = names;
+    let to = destination(frame);
+    let ours = good_destination(&all[..LOSSPEER], true, level(frame), to);
+    if (good_opcode(frame) == 1) & ours {
         return Decision::Changes(Change::UnexpectedLevel);
     }
     Decision::Drops(Drop::Level)
 }
 
-// Rule 4: a frame of our own level. D3, then D4 and D5, then D6, then D7, then its handler.
+// Rule 4: a frame of our own level, whose opcode has this row, is looked at once: D3, D4, D5, D6 and D7 in turn.
+fn look(names: &Names, frame: &[u8], rule: Rule) -> Looked
+    requires { ⌜ behindHead 4 ≤ length (now frame) ⌝ }
+    requires { ⌜ rule ≡ ruleOf (opcodeOf (pduOf (now frame))) ⌝ }
+    ensures { λ r. ⌜ r ≡ lookAt (ownNamed (now (names .entry))) (losspeerNamed (now (names .entry))) (now (frame .entry)) ⌝ }
+{
+    if !rule.handled {
+        return Looked::Drops(Drop::Opcode);
+    }
+    // refused before
+    if LONGEST < frame.len() {
+        return Looked::Drops(Drop::Short);
+    }
+    let pdu = pdu_of(frame);
+    let offset = pdu[3] as usize;
+    if offset < rule.least {
+        return Looked::Drops(Drop::Offset);
+    }
+    if !tlvs_whole(pdu, 4 + offset) {
+        return Looked::Drops(Drop::CutOff);
+    }
+    if !for_us(names, frame, rule) {
+        return Looked::Drops(Drop::Destination);
+    }
+    if !code_good(rule, period_code_of(pdu[2])) {
+        return Looked::Drops(Drop::Value);
+    }
+    Looked::Good
+}
+
+// Rule 4: a frame of our own level is dropped, or handled by its opcode's row.
 fn own_level(set: &Set, names: &Names, ids: &Slots, frame: &[u8], receive: Stamp) -> Decision
     requires { ⌜ behindHead 4 ≤ length (now frame) ⌝ }
+    requires { ⌜ oamFrame (now frame) ≡ true ⌝ }
     ensures { λ r. ⌜ r ≡ ownOf (lentSettings set names ids) (now (frame .entry)) receive ⌝ }
 {
     let pdu = pdu_of(frame);
     let rule = rule_of(pdu[1]);
-    if !rule.handled {
-        return Decision::Drops(Drop::Opcode);
-    }
-    let ours = for_us(names, frame);
-    match message_answer(frame) {
-        MessageAnswer::Bad(bad) => Decision::Drops(drop_for(bad)),
-        MessageAnswer::PeriodCode => {
-            if ours {
-                Decision::Drops(Drop::Value)
-            } else {
-                Decision::Drops(Drop::Destination)
-            }
-        }
-        MessageAnswer::Message(found) => {
-            if ours {
-                handle_message(set, names, ids, pdu, receive, found)
-            } else {
-                Decision::Drops(Drop::Destination)
-            }
+    match look(names, frame, rule) {
+        Looked::Drops(drop) => Decision::Drops(drop),
+        Looked::Good => {
+            let handler = rule.handler;
+            handle_message(set, names, ids, pdu, receive, handler)
         }
     }
 }

@@ -7,7 +7,7 @@ use mathlib.Core.List.{List}
 use lib.Dec.{eqb}
 use lib.ListN.{getD}
 use Rattle.base_laws.specs.Lists.{same}
-use Rattle.frame_opcodes.specs.Opcodes.{ruleOf}
+use Rattle.frame_opcodes.specs.declared.Rule.{Rule}
 use Rattle.frame_multicast.specs.Multicast.{multicastOf}
 
 abbrev pub hasGroupBit : List ℕ → Bool
@@ -19,7 +19,7 @@ goodDestination own multicast level destination = same destination own || (multi
 abbrev pub goodSource : List ℕ → Bool → Bool → List ℕ → Bool
 goodSource losspeer only request source = not (request && hasGroupBit source) && not (only && not (same source losspeer))
 
--- not D6
-unfoldable pub forUs : List ℕ → List ℕ → ℕ → ℕ → List ℕ → List ℕ → Bool
-forUs own losspeer opcode level destination source =
-    goodDestination own (ruleOf opcode .multicast) level destination && goodSource losspeer (ruleOf opcode .losspeer) (ruleOf opcode .request) source
+-- not D6, of a frame whose opcode has this row
+unfoldable pub forUs : List ℕ → List ℕ → Rule → ℕ → List ℕ → List ℕ → Bool
+forUs own losspeer row level destination source =
+    goodDestination own (row .multicast) level destination && goodSource losspeer (row .losspeer) (row .request) source

@@ -4,7 +4,7 @@ ghost use mathlib.Core.Path.{_≡_};
 ghost use Rattle.receive_for_us.specs.Ours.{hasGroupBit, goodDestination, goodSource, forUs};
 use base_compare::same_octets;
 use frame_multicast::is_multicast;
-use frame_opcodes::rule_of;
+use frame_opcodes::Rule;
 
 // Whether an address is a group's: the lowest bit of its first octet.
 fn has_group_bit(address: &[u8]) -> bool
@@ -17,7 +17,7 @@ fn has_group_bit(address: &[u8]) -> bool
 }
 
 // Whether a destination is good: our address, or the multicast address of the frame's level where the opcode may go there.
-fn good_destination(own: &[u8], multicast: bool, level: u32, destination: &[u8]) -> bool
+pub fn good_destination(own: &[u8], multicast: bool, level: u32, destination: &[u8]) -> bool
     ensures { λ r. ⌜ r ≡ goodDestination (now (own .entry)) multicast level (now (destination .entry)) ⌝ }
 {
     same_octets(destination, own) | (multicast & is_multicast(destination, level))
@@ -27,23 +27,26 @@ fn good_destination(own: &[u8], multicast: bool, level: u32, destination: &[u8])
 fn good_source(losspeer: &[u8], only: bool, request: bool, source: &[u8]) -> bool
     ensures { λ r. ⌜ r ≡ goodSource (now (losspeer .entry)) only request (now (source .entry)) ⌝ }
 {
-    let stranger = !same_octets(source, losspeer);
-    !(request & has_group_bit(source)) & !(only & stranger)
+    let individual = !(request & has_group_bit(source));
+    // the loss peer's address is compared only where it counts
+    if !only {
+        return individual;
+    }
+    individual & same_octets(source, losspeer)
 }
 
-// Whether a frame of this opcode and level, with these addresses, is for a box of these addresses, so not D6: our address, or the
-// multicast address of the frame's level where the opcode may go there; no request from a group; no LMR but the loss peer's.
+// Whether a frame whose opcode has this row, of this level and with these addresses, is for a box of these addresses, so not D6: our
+// address, or the multicast address of the frame's level where the opcode may go there; no request from a group; no LMR but the loss peer's.
 pub fn is_for_us(
     own: &[u8],
     losspeer: &[u8],
-    opcode: u8,
+    rule: Rule,
     level: u32,
     destination: &[u8],
     source: &[u8],
 ) -> bool
-    ensures { λ r. ⌜ r ≡ forUs (now (own .entry)) (now (losspeer .entry)) opcode level (now (destination .entry)) (now (source .entry)) ⌝ }
+    ensures { λ r. ⌜ r ≡ forUs (now (own .entry)) (now (losspeer .entry)) rule level (now (destination .entry)) (now (source .entry)) ⌝ }
 {
-    let rule = rule_of(opcode);
     let to = good_destination(own, rule.multicast, level, destination);
     to & good_source(losspeer, rule.losspeer, rule.request, source)
 }

@@ -5,15 +5,15 @@
 ghost use mathlib.Core.Path.{_≡_};
 ghost use Prim.Native.Nat.{_+_, _≤_};
 ghost use lib.ListN.{length};
-ghost use Rattle.receive_delay.specs.Delays.{delaysOf};
+ghost use Rattle.frame_head.specs.Head.{flagsOf};
+ghost use Rattle.frame_message.specs.Message.{periodCode};
 ghost use Rattle.frame_measures.specs.Measures.{stamp};
 ghost use Rattle.state_settings.specs.Settings.{lentSettings};
-ghost use Rattle.receive_handle.specs.Handle.{readingIn, handledOf};
+ghost use Rattle.receive_handle.specs.Handle.{lossReplyOf, delayReplyOf, handledOf};
 use base_bits::period_code_of;
 use base_numbers::read_big;
 use base_stamp::Stamp;
 use frame_opcodes::Handler;
-use frame_opcodes::rule_of;
 use receive_answer::Drop;
 use receive_change::Change;
 use receive_delay::DelayAnswer;
@@ -39,16 +39,28 @@ pub enum Decision {
     Delays(DelayAnswer),
 }
 
-// The three counts of a loss reply.
-fn reading_in(pdu: &[u8]) -> Change
-    requires { ⌜ 16 ≤ length (now pdu) ⌝ }
-    ensures { λ r. ⌜ r ≡ readingIn (now (pdu .entry)) ⌝ }
+// The period code of an alarm; 0 where the PDU has no flags.
+fn code_in(pdu: &[u8]) -> u32
+    ensures { λ r. ⌜ r ≡ periodCode (flagsOf (now (pdu .entry))) ⌝ }
 {
-    Change::Reading {
+    if pdu.len() < 3 {
+        return 0;
+    }
+    period_code_of(pdu[2])
+}
+
+// The three counts of a loss reply.
+fn reading_in(pdu: &[u8]) -> Decision
+    ensures { λ r. ⌜ r ≡ lossReplyOf (now (pdu .entry)) ⌝ }
+{
+    if pdu.len() < 16 {
+        return Decision::Drops(Drop::CutOff);
+    }
+    Decision::Changes(Change::Reading {
         txf: read_big(pdu, 4, 4),
         rxf: read_big(pdu, 8, 4),
         txb: read_big(pdu, 12, 4),
-    }
+    })
 }
 
 // A stamp of a delay reply.
@@ -63,16 +75,18 @@ fn stamp_at(pdu: &[u8], at: usize) -> Stamp
 }
 
 // The delays of a delay reply.
-fn delays_in(pdu: &[u8], receive: Stamp) -> DelayAnswer
-    requires { ⌜ 28 ≤ length (now pdu) ⌝ }
-    ensures { λ r. ⌜ r ≡ delaysOf (stamp 4 (now (pdu .entry))) (stamp 12 (now (pdu .entry))) (stamp 20 (now (pdu .entry))) receive ⌝ }
+fn delays_in(pdu: &[u8], receive: Stamp) -> Decision
+    ensures { λ r. ⌜ r ≡ delayReplyOf (now (pdu .entry)) receive ⌝ }
 {
-    measure_delay(
+    if pdu.len() < 28 {
+        return Decision::Drops(Drop::CutOff);
+    }
+    Decision::Delays(measure_delay(
         stamp_at(pdu, 4),
         stamp_at(pdu, 12),
         stamp_at(pdu, 20),
         receive,
-    )
+    ))
 }
 
 // A message for us, by who handles it: D5 where the fixed part of its opcode is not all there, which a good one never gets, else the
@@ -83,29 +97,20 @@ pub fn handle_message(
     ids: &Slots,
     pdu: &[u8],
     receive: Stamp,
-    opcode: u8,
+    handler: Handler,
 ) -> Decision
-    ensures { λ r. ⌜ r ≡ handledOf (lentSettings set names ids) (now (pdu .entry)) receive opcode ⌝ }
+    ensures { λ r. ⌜ r ≡ handledOf (lentSettings set names ids) (now (pdu .entry)) receive handler ⌝ }
 {
-    let rule = rule_of(opcode);
-    if pdu.len() < 4 + rule.least {
-        return Decision::Drops(Drop::CutOff);
-    }
-    let handler = rule.handler;
     match handler {
         Handler::Nobody => Decision::Drops(Drop::Opcode),
         Handler::ReaderOnly => Decision::Drops(Drop::Opcode),
         Handler::Continuity => Decision::Changes(Change::Told(ccm_signal(set, names, ids, pdu))),
         Handler::Loopback => Decision::Replies(Request::Loopback),
-        Handler::Alarm => Decision::Changes(Change::Told(Signal::Alarm {
-            code: period_code_of(pdu[2]),
-        })),
-        Handler::Lock => Decision::Changes(Change::Told(Signal::Lock {
-            code: period_code_of(pdu[2]),
-        })),
-        Handler::LossReply => Decision::Changes(reading_in(pdu)),
+        Handler::Alarm => Decision::Changes(Change::Told(Signal::Alarm { code: code_in(pdu) })),
+        Handler::Lock => Decision::Changes(Change::Told(Signal::Lock { code: code_in(pdu) })),
+        Handler::LossReply => reading_in(pdu),
         Handler::LossRequest => Decision::Replies(Request::Loss),
-        Handler::DelayReply => Decision::Delays(delays_in(pdu, receive)),
+        Handler::DelayReply => delays_in(pdu, receive),
         Handler::DelayRequest => Decision::Replies(Request::Delay),
     }
 }

@@ -1,80 +1,95 @@
--- The pieces of a line one behind the other, and the text of one record. Assumes nothing.
-use Prim.Native.Nat.{ℕ, _+_, _≤_, _<_}
+-- A line made from its end to its front, and the text of one record. Assumes nothing.
+use Prim.Native.Nat.{ℕ, suc, _+_, _-_, _≤_, _<_}
 use mathlib.Core.Path.{_≡_, refl, ap, ap₂, _∙_}
-use mathlib.Core.List.{List, [], _∷_, _++_}
+use mathlib.Core.List.{List, [], _∷_, _++_, append-assoc}
 use mathlib.Core.Bool.{Bool, true, false}
 use native.Mathlib.Omega.{arith}
 use lib.IntN.{ℤ, pos}
-use lib.ListN.{length, set, length-append}
+use lib.ListN.{length, set, take, drop, length-append, length-set, length-drop, drop-of-length-le}
+use lib.Seq.{take-all, drop-cons, drop-set-lt, getD-set-same}
 use mir.Syntax.{w64}
 use mir.Val.{SFits}
 use Rattle.base_laws.specs.Lists.{laid}
-use Rattle.base_laws.proofs.Overlaid.{laid-more, length-laid}
-use Rattle.base_laws.proofs.Pieces.{first, more}
 use Rattle.base_number_text.specs.Decimal.{decimal}
-use Rattle.base_number_text.specs.Put.{putAt, behind}
+use Rattle.base_number_text.specs.Before.{putBefore, beginning}
 use Rattle.base_number_text.proofs.Decimal.{decimals}
-use Rattle.base_number_text.proofs.Put.{put-laid, put-place}
+use Rattle.base_number_text.proofs.Before.{puts-before}
 use Rattle.stored_line.specs.declared.LossLine.{LossLine}
 use Rattle.stored_line.specs.declared.LineAnswer.the-variants.{Refused, Line}
 use Rattle.stored_line.specs.LineCalls.{readLine}
 use Rattle.stored_sheet.specs.Sheet.{refusedText, lineText, answerText, isLine, longestLine}
-use Rattle.stored_sheet_lines.specs.Chunk.{room}
 
--- ── the pieces of a line ──
+-- ── a line made from its end ──
 
-abbrev numberText : ℤ → ℕ → List ℕ
-numberText z mark = decimal z ++ (mark ∷ [])
+-- `text` stands in the last octets of t, from `at` on
+pub record Made (t : List ℕ) (at : ℕ) (text : List ℕ) : Type 0 where
+  pub long : length t ≡ longestLine
+  pub is : drop at t ≡ text
+  pub reach : at + length text ≡ longestLine
 
--- a number is put, and one octet stored behind it
-module _ (at mark : ℕ) (value : ℤ) (before : List ℕ) (room : at + 21 ≤ length before) (fits : SFits w64 value) {given : ℤ}
-    (same : given ≡ value) {after : List ℕ} {place : ℕ}
-    (e : after ≡ putAt at (decimal given) before) (f : place ≡ behind at (decimal given) before) where
-  short : length (decimal value) ≤ 20
-  short = decimals .longest value fits
+pub made-none : (t : List ℕ) → length t ≡ longestLine → Made t longestLine []
+made-none t h = let all : length t ≤ longestLine = omega arith in record { long = h; is = drop-of-length-le t all; reach = omega arith }
 
-  pub number-place : place ≡ at + length (decimal value)
-  number-place = f ∙ ap (λ (z : ℤ). behind at (decimal z) before) same ∙ put-place at (decimal value) before (omega (arith, short))
+module _ {t : List ℕ} {at : ℕ} {text : List ℕ} (m : Made t at text) (low : 21 ≤ at) (mark : ℕ) where
+  marked : List ℕ
+  marked = set t (at - 1) mark
 
-  number-laid : after ≡ laid at (decimal value) before
-  number-laid = e ∙ ap (λ (z : ℤ). putAt at (decimal z) before) same ∙ put-laid at (decimal value) before (omega (arith, short))
+  marked-long : length marked ≡ longestLine
+  unfolding marked
+  marked-long = length-set t (at - 1) mark ∙ m .long
 
-  pub number-within : place < length after
-  number-within = omega (arith, short, number-place, ap length number-laid ∙ length-laid at (decimal value) before (omega (arith, short)))
+  -- one octet stored in front of the text
+  marked-is : drop (at - 1) marked ≡ mark ∷ text
+  unfolding marked
+  marked-is =
+      let i = at - 1 in
+      let within : i < length t = omega (arith, m .long, m .reach) in
+      let next : suc i ≡ at = omega arith in
+      drop-cons marked i 0 (omega (arith, marked-long, m .reach))
+      ∙ ap₂ (λ (y : ℕ) (l : List ℕ). y ∷ l) (getD-set-same t i mark 0 within)
+      (drop-set-lt (suc i) t i mark (omega arith) ∙ ap (λ (k : ℕ). drop k t) next ∙ m .is)
 
-  pub number-marked : set after place mark ≡ laid at (decimal value ++ (mark ∷ [])) before
-  number-marked =
-      ap₂ (λ (l : List ℕ) (n : ℕ). set l n mark) number-laid number-place
-      ∙ laid-more at (decimal value) before mark (omega (arith, short))
+  -- and a number in front of that
+  module _ (z : ℤ) {given : ℤ} (same : given ≡ z) (fits : SFits w64 z) {after : List ℕ} {r : ℕ}
+      (put : (after ≡ putBefore (at - 1) given (set t (at - 1) mark)) × (r ≡ beginning (at - 1) given (set t (at - 1) mark))) where
+    high : at - 1 ≤ length marked
+    high = omega (arith, marked-long, m .reach)
 
-  pub number-behind : place + 1 ≡ at + length (decimal value ++ (mark ∷ []))
-  number-behind = omega (arith, number-place, length-append (decimal value) (mark ∷ []))
+    put-is : (after ≡ putBefore (at - 1) z marked) × (r ≡ beginning (at - 1) z marked)
+    unfolding marked
+    put-is = rw same at put
 
-  pub number-most : place + 1 ≤ at + 21
-  number-most = omega (arith, short, number-place)
+    short : length (decimal z) ≤ 20
+    short = decimals .longest z fits
 
--- three numbers, one behind the other, are the line
-pub line-laid : (at : ℕ) (line : LossLine) (l : List ℕ) {x y z : List ℕ} {i n f : ℤ} {p q r : ℕ} → at + longestLine ≤ length l
-    → i ≡ pos (line .intervals) → n ≡ line .near → f ≡ line .far
-    → (x ≡ laid at (numberText i 32) l) × (p ≡ at + length (numberText i 32)) × (p ≤ at + 21)
-    → (y ≡ laid p (numberText n 32) x) × (q ≡ p + length (numberText n 32)) × (q ≤ p + 21)
-    → (z ≡ laid q (numberText f 10) y) × (r ≡ q + length (numberText f 10)) × (r ≤ q + 21)
-    → (z ≡ laid at (lineText line) l) × (r ≡ at + length (lineText line)) × (r ≤ at + longestLine)
+    place : r ≡ at - 1 - length (decimal z)
+    place = put-is .1 ∙ puts-before .begins (at - 1) z marked (omega arith) high
+
+    pub made-room : at ≤ r + 21
+    made-room = omega (arith, place, short)
+
+    pub made-next : Made after r (decimal z ++ (mark ∷ text))
+    made-next = record {
+      long = ap length (put-is .0) ∙ puts-before .long (at - 1) z marked fits ∙ marked-long;
+      is = ap₂ (λ (l : List ℕ) (k : ℕ). drop k l) (put-is .0) (put-is .1) ∙ puts-before .text (at - 1) z marked fits (omega arith) high
+          ∙ ap (λ (l : List ℕ). decimal z ++ l) marked-is;
+      reach = omega (arith, place, short, m .reach, length-append (decimal z) (mark ∷ text));
+    }
+
+-- the three numbers of a line with what stands behind each, copied from where they were made
+pub line-copied : (at : ℕ) (line : LossLine) (l : List ℕ) {t after : List ℕ} {front : ℕ}
+    → Made t front (decimal (pos (line .intervals)) ++ (32 ∷ (decimal (line .near) ++ (32 ∷ (decimal (line .far) ++ (10 ∷ []))))))
+    → after ≡ laid at (take (longestLine - front) (drop front t)) l
+    → (after ≡ laid at (lineText line) l) × (at + (longestLine - front) ≡ at + length (lineText line))
+    × (at + (longestLine - front) ≤ at + longestLine)
 unfolding lineText
-line-laid at line l {x} {y} {z} {i} {n} {f} {p} {q} {r} h ei en ef a b c =
-    let i-text = numberText i 32 in
-    let n-text = numberText n 32 in
-    let f-text = numberText f 10 in
-    let one = first at (length i-text) i-text l (a .0) refl in
-    let two = more (length n-text) n-text one (b .0 ∙ ap (λ (k : ℕ). laid k n-text x) (a .1)) refl
-    (omega (arith, h, a .1, a .2, b .1, b .2)) in
-    let q-is : q ≡ at + (length i-text + length n-text) = omega (arith, a .1, b .1) in
-    let three = more (length f-text) f-text two (c .0 ∙ ap (λ (k : ℕ). laid k f-text y) q-is) refl
-    (omega (arith, h, a .1, a .2, b .1, b .2, c .1, c .2)) in
-    let size : r ≡ at + length (i-text ++ n-text ++ f-text) = omega (arith, c .1, q-is, three .long) in
-    let done : (z ≡ laid at (i-text ++ n-text ++ f-text) l) × (r ≡ at + length (i-text ++ n-text ++ f-text))
-    × (r ≤ at + longestLine) = (three .is, size, omega (arith, a .2, b .2, c .2)) in
-    rw (ei, en, ef) at done
+line-copied at line l {t} {after} {front} m e =
+    let is : drop front t ≡ lineText line = m .is ∙ whole in
+    let all = take-all (longestLine - front) (drop front t) (omega (arith, length-drop front t, m .long)) in
+    (e ∙ ap (λ (xs : List ℕ). laid at xs l) (all ∙ is), omega (arith, m .reach, ap length whole), omega arith)
+  where
+    whole : decimal (pos (line .intervals)) ++ (32 ∷ (decimal (line .near) ++ (32 ∷ (decimal (line .far) ++ (10 ∷ []))))) ≡ lineText line
+    whole = simp append-assoc
 
 -- ── the text of one record ──
 

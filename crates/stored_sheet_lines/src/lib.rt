@@ -1,15 +1,14 @@
 // The text of a chunk of records, written into a buffer: a line for each loss record, and the refusal at a bad one.
 ghost use mathlib.Core.Path.{_≡_};
-ghost use mathlib.Core.List.{[], _∷_, _++_};
-ghost use Prim.Native.Nat.{_+_, _≤_};
-ghost use lib.ListN.{length};
+ghost use Prim.Native.Nat.{_+_, _-_, _≤_};
+ghost use lib.ListN.{length, set};
 ghost use Rattle.base_laws.specs.Ended.{wrote};
 ghost use Rattle.base_laws.specs.Lists.{laid};
-ghost use Rattle.base_number_text.specs.Decimal.{decimal};
+ghost use Rattle.base_number_text.specs.Before.{putBefore, beginning};
 ghost use Rattle.stored_line.specs.LineCalls.{readLine};
-ghost use Rattle.stored_sheet.specs.Sheet.{lineText, refusedText, answerText, isLine, longestLine};
+ghost use Rattle.stored_sheet.specs.Sheet.{lineText, answerText, isLine, longestLine};
 ghost use Rattle.stored_sheet_lines.specs.Chunk.{writeLines};
-use base_number_write::write_decimal;
+use base_number_write::put_before;
 use base_octets::copy_octets;
 use stored_line::LINE;
 use stored_line::LineAnswer;
@@ -35,28 +34,30 @@ struct Turn {
     good: bool,
 }
 
-// Writes a number and one octet behind it at a place, and answers the place behind both.
-fn put_number(into: &mut [u8], at: usize, value: i64, mark: u8) -> usize
-    requires { ⌜ at + 21 ≤ length (now into) ⌝ }
-    ensures { λ r. ⌜ (now (into .exit) ≡ laid at (decimal value ++ (mark ∷ [])) (now (into .entry)))
-        × (r ≡ at + length (decimal value ++ (mark ∷ [])))
-        × (r ≤ at + 21) ⌝ }
+// Writes a number and one octet behind it so that they end before a place of a line, and answers where they begin.
+fn put_number(text: &mut [u8], end: usize, value: i64, mark: u8) -> usize
+    requires { ⌜ (21 ≤ end) × (end ≤ length (now text)) ⌝ }
+    ensures { λ r. ⌜ (now (text .exit) ≡ putBefore (end - 1) value (set (now (text .entry)) (end - 1) mark))
+        × (r ≡ beginning (end - 1) value (set (now (text .entry)) (end - 1) mark)) ⌝ }
 {
-    let behind = write_decimal(into, at, value);
-    into[behind] = mark;
-    behind + 1
+    text[end - 1] = mark;
+    put_before(text, end - 1, value)
 }
 
-// Writes a line at a place, and answers the place behind it.
+// Writes a line at a place, and answers the place behind it. It is made from its end to its front, since only then the place of each number
+// is known without counting its digits, and then copied whole.
 fn put_line(into: &mut [u8], at: usize, line: LossLine) -> usize
     requires { ⌜ at + longestLine ≤ length (now into) ⌝ }
     ensures { λ r. ⌜ (now (into .exit) ≡ laid at (lineText line) (now (into .entry)))
         × (r ≡ at + length (lineText line))
         × (r ≤ at + longestLine) ⌝ }
 {
-    let first = put_number(into, at, line.intervals as i64, b' ');
-    let second = put_number(into, first, line.near, b' ');
-    put_number(into, second, line.far, b'\n')
+    let mut text = [0u8; LONGEST];
+    let far = put_number(&mut text, LONGEST, line.far, b'\n');
+    let near = put_number(&mut text, far, line.near, b' ');
+    let front = put_number(&mut text, near, line.intervals as i64, b' ');
+    copy_octets(into, at, &text[front..]);
+    at + (LONGEST - front)
 }
 
 // Writes the text of the record at the front of the octets at a place: its line, or the refusal.
@@ -82,8 +83,8 @@ fn put_next(into: &mut [u8], at: usize, from: &[u8]) -> Turn
     }
 }
 
-// Writes the text of a chunk of records into the front of the buffer: as far as the first bad one, if there is one. It asks for three octets of room
-// for each octet read and one line more, which is always enough, so that the text need not be measured first.
+// Writes the text of a chunk of records into the front of the buffer: as far as the first bad one, if there is one. It asks for three
+// octets of room for each octet read and one line more, which is always enough, so that the text need not be measured first.
 pub fn write_lines(into: &mut [u8], from: &[u8]) -> Lines
     ensures { λ r. ⌜ wrote r (now (into .exit)) ≡ writeLines (now (from .entry)) (now (into .entry)) ⌝ }
 {

@@ -11,18 +11,18 @@ use Rattle.base_laws.specs.Lists.{onFirst}
 use Rattle.base_period.specs.Periods.{ticksOf}
 use Rattle.state_settings.specs.Settings.{slots, settingsOf}
 use Rattle.state_view.specs.State.{runWords, lossTotals}
-use Rattle.call_setting.specs.declared.SettingAnswer.the-variants.{Set}
-use Rattle.call_setting.specs.declared.Started.{Started}
-use Rattle.call_setting.specs.Start.{startOf, startedWith}
+use Rattle.call_setting.specs.declared.NewBox.{NewBox}
+use Rattle.call_setting.specs.Told.{settingTold}
+use Rattle.call_setting.specs.Start.{startOf, startedWith, boxOf}
 use Rattle.call_setting.proofs.begin.Statement.{statement}
 use Rattle.call_setting.proofs.begin.Tie as tie
 
 -- the parts that are worked out are the definition's
 made : (words names ids timers : List ℕ) (next : ℕ) → timers ≡ startOf (settingsOf words names ids) .timers
     → next ≡ ticksOf (settingsOf words names ids .period)
-    → _≡_ {A = Started}
+    → _≡_ {A = NewBox}
     (record {
-      answer = Set;
+      refusal = 0;
       state = record {
         set = words;
         names = names;
@@ -34,8 +34,8 @@ made : (words names ids timers : List ℕ) (next : ℕ) → timers ≡ startOf (
         totals = replicate lossTotals (pos 0);
       };
     })
-    (startedWith words names ids)
-unfolding startedWith
+    (boxOf (startedWith words names ids))
+unfolding startedWith settingTold
 made words names ids timers next e f = rw (e, f)
 
 returns : tie.Need-returns

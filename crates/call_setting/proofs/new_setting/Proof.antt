@@ -1,54 +1,45 @@
--- `call_setting::new_setting` meets its contract: zeros where the settings are not valid, else the starting state.
-use Prim.Native.Nat.{ℕ}
-use mathlib.Core.Path.{_≡_, sym, ap, _∙_}
-use mathlib.Core.Bool.{Bool, true, false, cond}
-use mathlib.Core.List.{List}
+-- `call_setting::new_setting` meets its contract: the state of the box that is made, and the answer that its number tells.
+use mathlib.Core.Path.{_≡_, refl, ap, _∙_}
 use denote.Ref.{now}
-use lib.ListN.{length}
-use borrow.Author.Tests.{not-true, not-false}
-use Rattle.state_settings.specs.Settings.{slots, settingsOf, Shaped, nameOctets}
-use Rattle.state_settings.specs.Valid.{valid}
-use Rattle.state_settings.proofs.Shape.{handed-shaped}
+use Rattle.state_settings.specs.Settings.{settingsOf}
 use Rattle.call_setting.specs.Told.{settingTold}
+use Rattle.call_setting.specs.declared.SettingAnswer.{SettingAnswer}
+use Rattle.call_setting.specs.declared.SettingAnswer.the-variants.{Invalid, Set}
 use Rattle.call_setting.specs.declared.Started.{Started}
-use Rattle.call_setting.specs.Start.{startedWith, noState, settingOf, settingNumbers}
+use Rattle.call_setting.specs.declared.NewBox.{NewBox}
+use Rattle.call_setting.specs.Start.{settingOf, boxOf, answerTold}
 use Rattle.call_setting.proofs.Starts.{agree, answers}
 use Rattle.base_laws.proofs.Places.{at}
 use borrow.Author.Needs.{needs}
 use Rattle.call_setting.proofs.new_setting.Statement.{statement}
 use Rattle.call_setting.proofs.new_setting.Tie as tie
 
--- the definition's answer, and its number
-module _ (words names ids : List ℕ) (r : Started) where
-  told-of : length names ≡ nameOctets → length ids ≡ slots → r ≡ settingOf words names ids
-      → (r ≡ settingOf words names ids)
-      × ((settingTold (r .answer) ≡ settingNumbers (settingsOf words names ids)) × Shaped slots (settingsOf words names ids))
-  told-of h k e = (
-    e,
-    (
-      ap (λ (x : Started). settingTold (x .answer)) e ∙ ap settingTold (answers words names ids)
-          ∙ agree (settingsOf words names ids),
-      handed-shaped words names ids h k,
-    ),
-  )
+-- the answer comes back from its number
+back : (x : SettingAnswer) → answerTold (settingTold x .refusal) ≡ x
+unfolding settingTold
+back Invalid = refl
+back Set = refl
 
-  chosen : (b : Bool) → valid (settingsOf words names ids) ≡ b → r ≡ cond b (startedWith words names ids) noState
-      → r ≡ settingOf words names ids
-  unfolding settingOf
-  chosen b v e = e ∙ sym (ap (λ (x : Bool). cond x (startedWith words names ids) noState) v)
+-- what is made of a box that was handed out
+module _ (s : Started) (r : NewBox) (answer : SettingAnswer) (e : r ≡ boxOf s) (f : answer ≡ answerTold (r .refusal)) where
+  answer-is : answer ≡ s .answer
+  answer-is = f ∙ ap (λ (x : NewBox). answerTold (x .refusal)) e ∙ back (s .answer)
+
+  started : _≡_ {A = Started} (record { answer = answer; state = r .state }) s
+  started = rw (answer-is, ap (λ (x : NewBox). x .state) e)
 
 returns : tie.Need-returns
 returns c = let a = at tie.Start (search) .args in
-    let v = sym (at tie.After-is-valid (search) .is-valid .ensures) ∙ not-true _ (c .before .if1 .taken) in
-    told-of (now (a .set)) (now (a .names)) (now (a .ids)) _ (search needs) (search needs)
-    (chosen (now (a .set)) (now (a .names)) (now (a .ids)) _ false v (c .none .ensures))
-
-returns-2 : tie.Need-returns-2
-returns-2 c = let a = at tie.Start (search) .args in
-    let v = sym (at tie.After-is-valid (search) .is-valid .ensures) ∙ not-false _ (c .before .if1 .left) in
-    told-of (now (a .set)) (now (a .names)) (now (a .ids)) _ (search needs) (search needs)
-    (chosen (now (a .set)) (now (a .names)) (now (a .ids)) _ true v (c .begin .ensures))
+    let made = at tie.After-new-box (search) .new-box in
+    let s = settingOf (now (a .set)) (now (a .names)) (now (a .ids)) in (
+      started s (made .result) _ (made .ensures .0) (c .answer-of .ensures),
+      (
+        ap settingTold (answer-is s (made .result) _ (made .ensures .0) (c .answer-of .ensures)
+            ∙ answers (now (a .set)) (now (a .names)) (now (a .ids)))
+            ∙ agree (settingsOf (now (a .set)) (now (a .names)) (now (a .ids))),
+        made .ensures .1,
+      ),
+    )
 
 pub new-setting-spec : {M : Type 1} → statement M
-new-setting-spec = tie.close
-    (tie.spec (search needs) (search needs) returns (search needs) returns-2)
+new-setting-spec = tie.close (tie.spec (search needs) (search needs) returns)

@@ -28,16 +28,16 @@ returns-2 c =
     no-room (a .t3) (a .opcode) (now (a .request)) (now (a .into)) (c .before .if1 .left) (c .if2 .taken)
 
 returns-3 : tie.Need-returns-3
-returns-3 c = let source = at tie.After-copy-octets3 (search) in
-    let destination = at tie.After-copy-octets2 (search) in
-    let whole = at tie.After-copy-octets (search) in
+returns-3 c = let source = at tie.After-copy-octets2 (search) in
+    let destination = at tie.After-copy-octets (search) in
+    let whole = at tie.After-copy-request (search) in
     let test = at tie.Else2 (search) in
     let s = at tie.Start (search) in
     let a = s .args in
     reply-laid (a .t3) (now (a .request)) (six s) (a .opcode) (omega arith) (now (a .into)) (omega arith)
-    (whole .copy-octets .ensures)
-    (destination .copy-octets2 .ensures)
-    (source .copy-octets3 .ensures)
+    (whole .copy-request .ensures)
+    (destination .copy-octets .ensures)
+    (source .copy-octets2 .ensures)
     ∙ sym (into-room (a .t3) (a .opcode) (now (a .request)) (now (a .into)) (test .before .if1 .left) (test .if2 .left))
 
 pub write-reply-spec : {M : Type 1} → statement M

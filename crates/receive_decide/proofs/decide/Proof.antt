@@ -27,7 +27,8 @@ below-requires c κs = let a = at tie.Start (search) .args in
 
 own-level-requires : tie.Need-own-level-requires
 own-level-requires c κs = let a = at tie.Start (search) .args in
-    classes _ (a .side) (now (a .frame)) .own-long (sym (at tie.After-class-of (search) .class-of .ensures) ∙ c .enum-told6 .given .1)
+    let own = sym (at tie.After-class-of (search) .class-of .ensures) ∙ c .enum-told6 .given .1 in
+    (classes _ (a .side) (now (a .frame)) .own-long own, classes _ (a .side) (now (a .frame)) .own-oam own)
 
 returns : tie.Need-returns
 unfolding byClass

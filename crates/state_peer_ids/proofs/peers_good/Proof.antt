@@ -1,13 +1,12 @@
 -- `state_peer_ids::peers_good` meets its contract: the used slots tested in front, the others behind them.
-use mathlib.Core.Path.{sym}
+use mathlib.Core.Path.{sym, _∙_}
 use native.Mathlib.Omega.{arith}
 use denote.Ref.{now}
 use lib.ListN.{length}
-use lib.Seq.{length-take-le}
-use borrow.Author.Tests.{le-leb, lt-leb}
+use borrow.Author.Tests.{le-leb, lt-leb, not-true, not-false}
 use Rattle.base_laws.proofs.Places.{at}
+use Rattle.base_laws.proofs.Tests.{passes, stops}
 use borrow.Author.Needs.{needs}
-use Rattle.base_laws.proofs.Loops.{part-rest}
 use Rattle.state_peer_ids.specs.Ids.{peersGood}
 use Rattle.state_peer_ids.proofs.peers_good.Statement.{statement}
 use Rattle.state_peer_ids.proofs.peers_good.Tie as tie
@@ -15,29 +14,22 @@ use Rattle.state_peer_ids.proofs.peers_good.Tie as tie
 returns : tie.Need-returns
 unfolding peersGood
 returns c = let a = at tie.Start (search) .args in
-    rw (lt-leb (a .count) (length (now (a .ids))) (c .if1 .taken))
-
-slice-aggregate-ids-good : tie.Need-slice-aggregate-ids-good
-slice-aggregate-ids-good c = let a = at tie.Start (search) .args in
-    sym (length-take-le (a .count) (now (a .ids)) (omega arith))
-
-slice-aggregate-all-distinct : tie.Need-slice-aggregate-all-distinct
-slice-aggregate-all-distinct c = let a = at tie.Start (search) .args in
-    sym (length-take-le (a .count) (now (a .ids)) (omega arith))
+    stops _ _ (lt-leb (a .count) (length (now (a .ids))) (omega (arith, c .if1 .taken)))
 
 returns-2 : tie.Need-returns-2
 unfolding peersGood
 returns-2 c = let a = at tie.Start (search) .args in
-    rw (
-      le-leb (a .count) (length (now (a .ids))) (at tie.Else1 (search) .if1 .left),
-      at tie.After-ids-good (search) .ids-good .ensures,
-      at tie.After-all-distinct (search) .all-distinct .ensures,
-      c .all-within .ensures,
-      part-rest (now (a .ids)) (a .count),
-    )
+    passes (le-leb (a .count) (length (now (a .ids))) (at tie.Else1 (search) .if1 .left))
+    (stops _ _ (sym (c .before .used-good .ensures) ∙ not-true _ (c .if2 .taken)))
+
+returns-3 : tie.Need-returns-3
+unfolding peersGood
+returns-3 c = let a = at tie.Start (search) .args in
+    passes (le-leb (a .count) (length (now (a .ids))) (at tie.Else1 (search) .if1 .left))
+    (passes (sym (at tie.After-used-good (search) .used-good .ensures) ∙ not-false _ (at tie.Else2 (search) .if2 .left))
+    (c .zero-from .ensures))
 
 pub peers-good-spec : {M : Type 1} → statement M
 peers-good-spec =
     tie.close
-    (tie.spec returns slice-aggregate-ids-good (search needs) slice-aggregate-all-distinct (search needs) (search needs) (search needs)
-    (search needs) (search needs) (search needs) returns-2)
+    (tie.spec returns (search needs) returns-2 (search needs) returns-3)

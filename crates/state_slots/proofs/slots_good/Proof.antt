@@ -8,9 +8,9 @@ returns : tie.Need-returns
 returns c =
     rw (
       at tie.After-all-within (search) .all-within .ensures,
-      at tie.After-unused-empty (search) .unused-empty .ensures,
-      c .before .all-within2 .ensures,
-      c .unused-empty2 .ensures,
+      at tie.After-zero-from (search) .zero-from .ensures,
+      at tie.After-all-within2 (search) .all-within2 .ensures,
+      c .zero-from2 .ensures,
     )
 
 pub slots-good-spec : {M : Type 1} → statement M

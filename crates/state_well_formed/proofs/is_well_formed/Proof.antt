@@ -1,6 +1,6 @@
 -- `state_well_formed::is_well_formed` meets its contract: five groups of rules, one behind the other.
 use mathlib.Core.Path.{_≡_, sym, ap, _∙_}
-use mathlib.Core.Bool.{Bool, true, false, _&&_}
+use mathlib.Core.Bool.{true}
 use denote.Ref.{now}
 use borrow.Author.Tests.{not-true, not-false}
 use Rattle.loss_session.specs.Session as Session
@@ -9,25 +9,10 @@ use Rattle.state_settings.specs.Valid.{valid}
 use Rattle.state_view.specs.State.{State, viewOf}
 use Rattle.state_view.specs.WellFormed.{ownMost, timersGood, nextGood, slotsGood, wellFormed}
 use Rattle.base_laws.proofs.Places.{at}
+use Rattle.base_laws.proofs.Tests.{passes, stops}
 use borrow.Author.Needs.{needs}
 use Rattle.state_well_formed.proofs.is_well_formed.Statement.{statement}
 use Rattle.state_well_formed.proofs.is_well_formed.Tie as tie
-
--- five tests, and where the first fails
-first : (a b : Bool) → a ≡ false → false ≡ (a && b)
-first a b h = rw h
-
-second : (a b c : Bool) → a ≡ true → b ≡ false → false ≡ (a && (b && c))
-second a b c h k = rw (h, k)
-
-third : (a b c d : Bool) → a ≡ true → b ≡ true → c ≡ false → false ≡ (a && (b && (c && d)))
-third a b c d h k l = rw (h, k, l)
-
-fourth : (a b c d e : Bool) → a ≡ true → b ≡ true → c ≡ true → d ≡ false → false ≡ (a && (b && (c && (d && e))))
-fourth a b c d e h k l m = rw (h, k, l, m)
-
-last : (a b c d e r : Bool) → a ≡ true → b ≡ true → c ≡ true → d ≡ true → r ≡ e → r ≡ (a && (b && (c && (d && e))))
-last a b c d e r h k l m n = rw (h, k, l, m, n)
 
 -- ── what each test says of the state that came in ──
 
@@ -66,25 +51,25 @@ slots-held c = slots-say (search) ∙ not-false _ (c .if4 .left)
 
 returns : tie.Need-returns
 unfolding wellFormed
-returns c = first _ _ (valid-says (search) ∙ not-true _ (c .if1 .taken))
+returns c = stops _ _ (valid-says (search) ∙ not-true _ (c .if1 .taken))
 
 returns-2 : tie.Need-returns-2
 unfolding wellFormed
-returns-2 c = second _ _ _ (valid-held (search)) (timers-say (search) ∙ not-true _ (c .if2 .taken))
+returns-2 c = passes (valid-held (search)) (stops _ _ (timers-say (search) ∙ not-true _ (c .if2 .taken)))
 
 returns-3 : tie.Need-returns-3
 unfolding wellFormed
-returns-3 c = third _ _ _ _ (valid-held (search)) (timers-held (search)) (next-says (search) ∙ not-true _ (c .if3 .taken))
+returns-3 c = passes (valid-held (search)) (passes (timers-held (search)) (stops _ _ (next-says (search) ∙ not-true _ (c .if3 .taken))))
 
 returns-4 : tie.Need-returns-4
 unfolding wellFormed
-returns-4 c =
-    fourth _ _ _ _ _ (valid-held (search)) (timers-held (search)) (next-held (search)) (slots-say (search) ∙ not-true _ (c .if4 .taken))
+returns-4 c = passes (valid-held (search)) (passes (timers-held (search)) (passes (next-held (search))
+    (stops _ _ (slots-say (search) ∙ not-true _ (c .if4 .taken)))))
 
 returns-5 : tie.Need-returns-5
 unfolding wellFormed
-returns-5 c = last _ _ _ _ _ _ (valid-held (search)) (timers-held (search)) (next-held (search)) (slots-held (search))
-    (c .well-formed .ensures ∙ ap Session.wellFormed (c .before .session-of .ensures))
+returns-5 c = passes (valid-held (search)) (passes (timers-held (search)) (passes (next-held (search)) (passes (slots-held (search))
+    (c .well-formed .ensures ∙ ap Session.wellFormed (c .before .session-of .ensures)))))
 
 pub is-well-formed-spec : {M : Type 1} → statement M
 is-well-formed-spec =

@@ -1,47 +1,27 @@
--- `stored_sheet_lines::put_number` meets its contract: the text of the number, and one octet stored behind it.
-use native.Mathlib.Omega.{arith}
-use denote.Ref.{now}
+-- `stored_sheet_lines::put_number` meets its contract: one octet stored, and the number put before it.
+use Prim.Native.Nat.{_-_}
 use mathlib.Core.Path.{_≡_}
+use denote.Ref.{now}
+use lib.ListN.{length-set}
 use mir.Syntax.{w64}
-use mir.Val.{SFits, toZ, ofZ}
+use mir.Val.{toZ, ofZ}
+use native.Mathlib.Omega.{arith}
 use Rattle.base_laws.proofs.Places.{at}
-use Rattle.stored_sheet_lines.proofs.LinePieces.{number-within, number-marked, number-behind, number-most}
 use borrow.Author.Needs.{needs}
 use Rattle.stored_sheet_lines.proofs.put_number.Statement.{statement}
 use Rattle.stored_sheet_lines.proofs.put_number.Tie as tie
 
-slice-write-into : tie.Need-slice-write-into
-slice-write-into c = let w = at tie.After-write-decimal (search) in
-    let a = at tie.Start (search) .args in
-    let fits : SFits w64 (a .value) = search needs in
-    let back : toZ w64 (ofZ w64 (a .value)) ≡ a .value = search needs in
-    number-within (a .at) (a .mark) (a .value) (now (a .into)) (at tie.Start (search) .pre) fits back (w .write-decimal .ensures .0)
-    (w .write-decimal .ensures .1)
-
-add-result : tie.Need-add-result
-add-result c = let w = at tie.After-write-decimal (search) in
-    let a = at tie.Start (search) .args in
-    let fits : SFits w64 (a .value) = search needs in
-    let back : toZ w64 (ofZ w64 (a .value)) ≡ a .value = search needs in
-    omega (
-      arith,
-      number-most (a .at) (a .mark) (a .value) (now (a .into)) (at tie.Start (search) .pre) fits back
-          (w .write-decimal .ensures .0) (w .write-decimal .ensures .1),
-    )
+-- the number comes back from its bits
+back : (s : tie.Start) → toZ w64 (ofZ w64 (s .args .value)) ≡ s .args .value
+back s = search needs
 
 returns : tie.Need-returns
-returns c = let w = at tie.After-write-decimal (search) in
-    let s = at tie.Start (search) in
-    let a = s .args in
-    let fits : SFits w64 (a .value) = search needs in
-    let back : toZ w64 (ofZ w64 (a .value)) ≡ a .value = search needs in
-    let e = w .write-decimal .ensures in (
-      number-marked (a .at) (a .mark) (a .value) (now (a .into)) (s .pre) fits back (e .0) (e .1),
-      number-behind (a .at) (a .mark) (a .value) (now (a .into)) (s .pre) fits back (e .0) (e .1),
-      number-most (a .at) (a .mark) (a .value) (now (a .into)) (s .pre) fits back (e .0) (e .1),
-    )
+returns c = rw (back (at tie.Start (search))) at (at tie.After-put-before (search) .put-before .ensures)
+
+same-length : tie.Need-same-length
+same-length c = let a = at tie.Start (search) .args in omega (arith, length-set (now (a .text)) (a .end - 1) (a .mark))
 
 pub put-number-spec : {M : Type 1} → statement M
 put-number-spec =
     tie.close
-    (tie.spec (λ c. search needs) slice-write-into add-result (λ c. search needs) returns)
+    (tie.spec (search needs) (search needs) (search needs) (search needs) same-length returns)

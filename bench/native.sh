@@ -81,29 +81,36 @@ fn main() {
     let last = Readings { txf: 0, rxf: 0, txb: 0, ours: 0 };
     let mut session = LossSession { kept: 0, intervals: 0, last, near: 0, far: 0 };
     let line = LossLine { near: 0, far: 0, intervals: 0 };
-    let _a = linkbox_state::linkbox_new_setting(&set, &names, &ids);
-    let _b = linkbox_frame::linkbox_frame(&set, &names, &ids, &mut timers, &mut rdi, &mut run, &mut totals, 1, &frame, zero, zero, &mut out);
-    let _c = linkbox_send::linkbox_tick(&set, &names, &ids, &mut timers, &rdi, &mut run, &totals, &mut out);
-    let _d = linkbox_state::linkbox_clear(&set, &names, &ids, &timers, &rdi, &mut run, &mut totals);
-    let _e = linkbox_send::linkbox_send_lmm(&set, &names, &ids, &timers, &rdi, &run, &totals, &mut out);
-    let _f = linkbox_send::linkbox_send_dmm(&set, &names, &ids, &timers, &rdi, &run, &totals, zero, &mut out);
-    let _g = linkbox_state::linkbox_conditions(&set, &names, &ids, &timers, &rdi, &run, &totals);
+    let _a = linkbox_state::linkbox_raw_new_setting(&set, &names, &ids);
+    let _b = linkbox_frame::linkbox_raw_frame(&set, &names, &ids, &mut timers, &mut rdi, &mut run, &mut totals, 1, &frame, zero, zero, &mut out);
+    let _c = linkbox_send::linkbox_raw_tick(&set, &names, &ids, &mut timers, &rdi, &mut run, &totals, &mut out);
+    let _d = linkbox_state::linkbox_raw_clear(&set, &names, &ids, &timers, &rdi, &mut run, &mut totals);
+    let _e = linkbox_send::linkbox_raw_send_lmm(&set, &names, &ids, &timers, &rdi, &run, &totals, &mut out);
+    let _f = linkbox_send::linkbox_raw_send_dmm(&set, &names, &ids, &timers, &rdi, &run, &totals, zero, &mut out);
+    let _g = linkbox_state::linkbox_raw_conditions(&set, &names, &ids, &timers, &rdi, &run, &totals);
     let _h = linkbox_session::linkbox_measure(&mut session, 0, 0, 0, 0);
     let _i = linkbox_records::linkbox_read_settings(&frame);
-    let _j = linkbox_records::linkbox_write_settings(&mut out, &set, &names, &ids);
+    let _j = linkbox_records::linkbox_raw_write_settings(&mut out, &set, &names, &ids);
     let _k = linkbox_records::linkbox_read_line(&frame);
     let _l = linkbox_records::linkbox_write_line(&mut out, line);
     let _m = linkbox_reader::linkbox_tlv(&frame, 0);
+    let _n = linkbox_line::linkbox_raw_loss_line(&set, &names, &ids, &timers, &rdi, &run, &totals, &mut out);
+    let _o = linkbox_send::linkbox_raw_ticks_to_next(&set, &names, &ids, &timers, &rdi, &run, &totals);
+    let _p = linkbox_state::linkbox_abi();
 }
 RT
 }
 
-# linkbox_object NAME DIR PREFIX: NAME.o, the calls of the C boundary as C functions PREFIX_CALL for this processor
-linkbox_object() {
+# linkbox_ir NAME DIR: the IR of the calls of the C boundary in NAME.caught.ll, and without its main in NAME.ll
+linkbox_ir() {
     write_linkbox "$2" >"$work/main.rt"
     catch_ir "$1" "$2" "$work/main.rt" --crate-name main
-    # without its main
     sed -e '/^define i32 @main()/,/^}/d' -e '/^define internal void @"main::main"()/,/^}/d' "$work/$1.caught.ll" >"$work/$1.ll"
+}
+
+# linkbox_object NAME DIR PREFIX: NAME.o, the calls of the C boundary as C functions PREFIX_CALL for this processor
+linkbox_object() {
+    linkbox_ir "$1" "$2"
     bench/exports "$3" <"$work/$1.caught.ll" >>"$work/$1.ll"
     compile "$1"
 }

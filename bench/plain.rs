@@ -200,16 +200,16 @@ impl Arrays {
         }
         let all = here.nanos() - txf.nanos();
         if !rxf.given() || !txb.given() {
-            return FrameTold { done: 6, twoway: all, ..Default::default() };
+            return FrameTold { done: 6, two_way: all, ..Default::default() };
         }
         if !rxf.good() || !txb.good() {
             return dropped(7);
         }
         FrameTold {
             done: 7,
-            twoway: all - (txb.nanos() - rxf.nanos()),
-            onewayfar: rxf.nanos() - txf.nanos(),
-            onewaynear: here.nanos() - txb.nanos(),
+            two_way: all - (txb.nanos() - rxf.nanos()),
+            one_way_far: rxf.nanos() - txf.nanos(),
+            one_way_near: here.nanos() - txb.nanos(),
             ..Default::default()
         }
     }
@@ -386,9 +386,9 @@ impl Arrays {
         let stands = |at: usize| (self.run[at] > 0) as u32;
         let mut flags = ConditionFlags {
             mismerge: stands(MISMERGE),
-            unexpectedmep: stands(MEP),
-            unexpectedperiod: stands(PERIOD),
-            unexpectedlevel: stands(LEVEL),
+            unexpected_mep: stands(MEP),
+            unexpected_period: stands(PERIOD),
+            unexpected_level: stands(LEVEL),
             ais: stands(AIS),
             lck: stands(LCK),
             ..Default::default()

@@ -378,16 +378,16 @@ fn delay_reply(f: &[u8], here: Stamp) -> FrameTold {
     }
     let all = nanos(here) - nanos(txf);
     if !given(rxf) || !given(txb) {
-        return FrameTold { done: 6, twoway: all, ..Default::default() };
+        return FrameTold { done: 6, two_way: all, ..Default::default() };
     }
     if !good(rxf) || !good(txb) {
         return dropped(7);
     }
     FrameTold {
         done: 7,
-        twoway: all - (nanos(txb) - nanos(rxf)),
-        onewayfar: nanos(rxf) - nanos(txf),
-        onewaynear: nanos(here) - nanos(txb),
+        two_way: all - (nanos(txb) - nanos(rxf)),
+        one_way_far: nanos(rxf) - nanos(txf),
+        one_way_near: nanos(here) - nanos(txb),
         ..Default::default()
     }
 }
@@ -601,9 +601,9 @@ pub fn conditions(s: &Arrays) -> ConditionsTold {
         // 0 in unused slots
         rdi: s.rdi,
         mismerge: stands(MISMERGE),
-        unexpectedmep: stands(MEP),
-        unexpectedperiod: stands(PERIOD),
-        unexpectedlevel: stands(LEVEL),
+        unexpected_mep: stands(MEP),
+        unexpected_period: stands(PERIOD),
+        unexpected_level: stands(LEVEL),
         ais: stands(AIS),
         lck: stands(LCK),
         ..Default::default()

@@ -1,7 +1,7 @@
-//! The static library's own functions, as linkbox.h declares them: raw, one by one. `lib.rs` is what a program calls.
+//! The static library's own functions, as linkbox.h and linkbox_raw.h declare them, one by one. `lib.rs` is what a program calls.
 //!
-//! The caller sees to it that every pointer is to memory of the size that is named and that what a call writes overlaps nothing else that is handed over. A
-//! slice is a pointer, never null, and a length. Any content of the memory is a value.
+//! The caller sees to it that every pointer is to memory of the size that is named and that what a call writes overlaps nothing else that
+//! is passed in. A slice is a pointer, never null, and a length. Any content of the memory is a value.
 
 /// How many peers a box has room for.
 pub const PEERS: usize = 8;
@@ -41,8 +41,8 @@ pub struct Arrays {
     pub timers: Slots,
     /// Of each peer: 1 while its last CCM had RDI.
     pub rdi: Slots,
-    /// Timers of mismerge, unexpected level, MEP and period, AIS and LCK; ticks to the next CCM; sent and received service frames; whether a reading is
-    /// kept; TxFCf, RxFCf, TxFCb and our own count of it; intervals.
+    /// Timers of mismerge, unexpected level, MEP and period, AIS and LCK; ticks to the next CCM; sent and received service frames; whether
+    /// a reading is kept; TxFCf, RxFCf, TxFCb and our own count of it; intervals.
     pub run: Run,
     /// Near and far loss.
     pub totals: Totals,
@@ -75,9 +75,9 @@ pub struct FrameTold {
     pub length: usize,
     pub near: i64,
     pub far: i64,
-    pub twoway: i64,
-    pub onewayfar: i64,
-    pub onewaynear: i64,
+    pub two_way: i64,
+    pub one_way_far: i64,
+    pub one_way_near: i64,
 }
 
 /// What a call that writes a message or record is answered: the refusal, or 0, and how many octets were written.
@@ -88,16 +88,16 @@ pub struct Written {
     pub length: usize,
 }
 
-/// Each condition, 1 while it stands and else 0; of each peer slot loss of continuity and the RDI that it last sent.
+/// Each condition, 1 while it is active and else 0; of each peer slot loss of continuity and the RDI that it last sent.
 #[repr(C)]
 #[derive(Clone, Copy, PartialEq, Eq, Debug, Default)]
 pub struct ConditionFlags {
     pub lost: Slots,
     pub rdi: Slots,
     pub mismerge: u32,
-    pub unexpectedmep: u32,
-    pub unexpectedperiod: u32,
-    pub unexpectedlevel: u32,
+    pub unexpected_mep: u32,
+    pub unexpected_period: u32,
+    pub unexpected_level: u32,
     pub ais: u32,
     pub lck: u32,
 }
@@ -178,54 +178,71 @@ pub struct TlvTold {
     pub length: usize,
 }
 
-// The sizes that linkbox.h asserts too.
-const _: () = assert!(size_of::<usize>() == 8, "the library is code for 64 bits");
+// The sizes that linkbox_raw.h asserts too.
+const WORD: usize = size_of::<usize>();
+const _: () = assert!(WORD == 8 || WORD == 4, "lengths have 64 bits or 32");
 const _: () = assert!(size_of::<Arrays>() == 248 && size_of::<SettingArrays>() == 108, "a box and its settings have no padding");
 const _: () = assert!(size_of::<NewBox>() == 256 && core::mem::offset_of!(NewBox, arrays) == 8);
-const _: () = assert!(size_of::<Stamp>() == 8 && size_of::<Written>() == 16 && size_of::<FrameTold>() == 64);
+const _: () = assert!(size_of::<Stamp>() == 8 && size_of::<Written>() == 2 * WORD && size_of::<FrameTold>() == 48 + 2 * WORD);
 const _: () = assert!(size_of::<ConditionFlags>() == 88 && size_of::<ConditionsTold>() == 92 && size_of::<SettingsRead>() == 112);
-const _: () = assert!(size_of::<LossLine>() == 24 && size_of::<LineTold>() == 24 && size_of::<LossSession>() == 40 && size_of::<LossTold>() == 24);
-const _: () = assert!(size_of::<TlvTold>() == 32);
+const _: () = assert!(size_of::<LossLine>() == 24 && size_of::<LineTold>() == 24);
+const _: () = assert!(size_of::<LossSession>() == 40 && size_of::<LossTold>() == 24);
+const _: () = assert!(size_of::<TlvTold>() == 8 + 3 * WORD);
 
 unsafe extern "C" {
     /// A new setting: the box that these settings start, or refusal 4 and zeros. Writes nothing.
-    pub fn linkbox_new_setting(set: *const Set, names: *const Names, ids: *const Slots) -> NewBox;
+    pub fn linkbox_raw_new_setting(set: *const Set, names: *const Names, ids: *const Slots) -> NewBox;
 
     /// A frame from a side (0 the active one, any other number the passive one). Writes timers, rdi, run, totals and out.
-    pub fn linkbox_frame(
+    pub fn linkbox_raw_frame(
         set: *const Set, names: *const Names, ids: *const Slots, timers: *mut Slots, rdi: *mut Slots, run: *mut Run,
         totals: *mut Totals, side: u32, frame: *const u8, length: usize, receive: Stamp, transmit: Stamp, out: *mut u8, room: usize,
     ) -> FrameTold;
 
     /// A tick. Writes timers, run and out.
-    pub fn linkbox_tick(
+    pub fn linkbox_raw_tick(
         set: *const Set, names: *const Names, ids: *const Slots, timers: *mut Slots, rdi: *const Slots, run: *mut Run,
         totals: *const Totals, out: *mut u8, room: usize,
     ) -> Written;
 
     /// A clear of the loss session; tells 0, or refusal 2. Writes run and totals.
-    pub fn linkbox_clear(
+    pub fn linkbox_raw_clear(
         set: *const Set, names: *const Names, ids: *const Slots, timers: *const Slots, rdi: *const Slots, run: *mut Run,
         totals: *mut Totals,
     ) -> u32;
 
     /// Writes an LMM into out.
-    pub fn linkbox_send_lmm(
+    pub fn linkbox_raw_send_lmm(
         set: *const Set, names: *const Names, ids: *const Slots, timers: *const Slots, rdi: *const Slots,
         run: *const Run, totals: *const Totals, out: *mut u8, room: usize,
     ) -> Written;
 
+    /// How many ticks are left to the next CCM, or 0 where the state is not well formed. Writes nothing.
+    pub fn linkbox_raw_ticks_to_next(
+        set: *const Set, names: *const Names, ids: *const Slots, timers: *const Slots, rdi: *const Slots,
+        run: *const Run, totals: *const Totals,
+    ) -> u32;
+
     /// Writes a DMM with the caller's stamp into out.
-    pub fn linkbox_send_dmm(
+    pub fn linkbox_raw_send_dmm(
         set: *const Set, names: *const Names, ids: *const Slots, timers: *const Slots, rdi: *const Slots,
         run: *const Run, totals: *const Totals, stamp: Stamp, out: *mut u8, room: usize,
     ) -> Written;
 
-    /// What stands, one by one. Writes nothing.
-    pub fn linkbox_conditions(
+    /// Which conditions are active. Writes nothing.
+    pub fn linkbox_raw_conditions(
         set: *const Set, names: *const Names, ids: *const Slots, timers: *const Slots, rdi: *const Slots,
         run: *const Run, totals: *const Totals,
     ) -> ConditionsTold;
+
+    /// Writes the session's loss line as a record into `into`.
+    pub fn linkbox_raw_loss_line(
+        set: *const Set, names: *const Names, ids: *const Slots, timers: *const Slots, rdi: *const Slots,
+        run: *const Run, totals: *const Totals, into: *mut u8, room: usize,
+    ) -> Written;
+
+    /// How many octets a box has in the archive.
+    pub fn linkbox_abi() -> usize;
 
     /// One more reading of a lent session. Writes the session.
     pub fn linkbox_measure(session: *mut LossSession, txf: u32, rxf: u32, txb: u32, ours: u32) -> LossTold;
@@ -234,7 +251,7 @@ unsafe extern "C" {
     pub fn linkbox_read_settings(from: *const u8, length: usize) -> SettingsRead;
 
     /// Writes settings as a record into `into`.
-    pub fn linkbox_write_settings(
+    pub fn linkbox_raw_write_settings(
         into: *mut u8, room: usize, set: *const Set, names: *const Names, ids: *const Slots,
     ) -> Written;
 

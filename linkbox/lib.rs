@@ -1,7 +1,8 @@
-//! A link box for Rust programs and firmware, over the static library that `tests/linkbox/run` makes. No part of std is needed, nothing is allocated.
+//! A link box for Rust programs and firmware, over the static library that `linkbox/build` makes. No part of std is needed, nothing is
+//! allocated, and no call panics.
 //!
-//! [`LinkBox`] owns the arrays that hold a box's state; each method is one call. What a call writes is borrowed mutably and what it reads is borrowed
-//! beside it, so the compiler rules out the overlap that a C caller has to see to.
+//! [`LinkBox`] owns the arrays that hold a box's state; each method is one call. What a call writes is borrowed mutably and what it reads
+//! is borrowed beside it, so the compiler rules out the overlap that a C caller has to see to.
 //!
 //! ```no_run
 //! use linkbox::{FrameAnswer, LinkBox, Settings, Side, Stamp};
@@ -24,26 +25,32 @@
 
 pub mod ffi;
 
+use core::fmt;
 use ffi::SettingArrays;
 pub use ffi::{Arrays, LossLine, LossSession, PEERS, RUN, Readings, Stamp};
 
-/// Why a call was refused; state and buffers are as they were.
+/// Why a call was refused; state and buffers are as they were. Requests will add numbers, so a match needs an arm for the rest.
 #[derive(Clone, Copy, PartialEq, Eq, Debug)]
+#[non_exhaustive]
 pub enum Refusal {
     /// 1: frame length outside 14..1,514.
-    BadLength = 1,
-    /// 2: the state or session handed in is not well formed.
-    NotWellFormed = 2,
+    BadLength,
+    /// 2: the state or session passed in is not well formed.
+    NotWellFormed,
     /// 3: a message or record must be written and the buffer is shorter than it.
-    NoRoom = 3,
+    NoRoom,
     /// 4: a setting, or a value to be written, breaks a rule.
-    BadSetting = 4,
+    BadSetting,
     /// 5: a good loss reply would start interval 1,000,000,001.
-    Full = 5,
+    Full,
     /// 6: a stamp given by the caller has too many nanoseconds.
-    BadStamp = 6,
+    BadStamp,
     /// 7: a stored record has a wrong length or kind, is cut short, or breaks a rule on its values.
-    BadRecord = 7,
+    BadRecord,
+    /// The archive that is linked has another box than this library ([`fits`]).
+    Archive,
+    /// A number that this library does not know, from a newer archive.
+    Other(u32),
 }
 
 impl Refusal {
@@ -58,30 +65,51 @@ impl Refusal {
             5 => Refusal::Full,
             6 => Refusal::BadStamp,
             7 => Refusal::BadRecord,
-            _ => unreachable!("the library tells refusals 1 to 7 alone"),
+            other => Refusal::Other(other),
         })
     }
 }
 
-/// Why a frame was dropped: D1 to D8.
+impl fmt::Display for Refusal {
+    fn fmt(&self, f: &mut fmt::Formatter<'_>) -> fmt::Result {
+        f.write_str(match self {
+            Refusal::BadLength => "frame length outside 14..1514",
+            Refusal::NotWellFormed => "box or session not well formed",
+            Refusal::NoRoom => "buffer too short",
+            Refusal::BadSetting => "bad setting or value",
+            Refusal::Full => "no loss interval left",
+            Refusal::BadStamp => "bad stamp",
+            Refusal::BadRecord => "bad stored record",
+            Refusal::Archive => "the archive has another box than this library",
+            Refusal::Other(number) => return write!(f, "refusal {number}, which this library does not know"),
+        })
+    }
+}
+
+impl core::error::Error for Refusal {}
+
+/// Why a frame was dropped: D1 to D8. Requests will add numbers, so a match needs an arm for the rest.
 #[derive(Clone, Copy, PartialEq, Eq, Debug)]
+#[non_exhaustive]
 pub enum Dropped {
     /// D1: an OAM frame shorter than 18.
-    Short = 1,
+    Short,
     /// D2: its level.
-    Level = 2,
+    Level,
     /// D3: an opcode that is not handled.
-    Opcode = 3,
+    Opcode,
     /// D4: a TLV offset below the opcode's.
-    Offset = 4,
+    Offset,
     /// D5: the fixed part, a TLV or the End TLV missing.
-    CutOff = 5,
+    CutOff,
     /// D6: a destination that is not ours.
-    Destination = 6,
+    Destination,
     /// D7: a field's value.
-    Value = 7,
+    Value,
     /// D8: a delay that a signed 64-bit number cannot hold. Never given.
-    TooLarge = 8,
+    TooLarge,
+    /// A number that this library does not know, from a newer archive.
+    Other(u32),
 }
 
 impl Dropped {
@@ -97,10 +125,28 @@ impl Dropped {
             6 => Dropped::Destination,
             7 => Dropped::Value,
             8 => Dropped::TooLarge,
-            _ => unreachable!("the library tells drops 1 to 8 alone"),
+            other => Dropped::Other(other),
         })
     }
 }
+
+impl fmt::Display for Dropped {
+    fn fmt(&self, f: &mut fmt::Formatter<'_>) -> fmt::Result {
+        f.write_str(match self {
+            Dropped::Short => "OAM frame too short",
+            Dropped::Level => "level",
+            Dropped::Opcode => "opcode not handled",
+            Dropped::Offset => "TLV offset too small",
+            Dropped::CutOff => "fixed part or TLVs cut off",
+            Dropped::Destination => "not for us",
+            Dropped::Value => "bad value of a field",
+            Dropped::TooLarge => "delay too large",
+            Dropped::Other(number) => return write!(f, "drop {number}, which this library does not know"),
+        })
+    }
+}
+
+impl core::error::Error for Dropped {}
 
 /// Where a frame came in.
 #[derive(Clone, Copy, PartialEq, Eq, Debug)]
@@ -125,6 +171,7 @@ pub struct OneWay {
 
 /// What a frame is answered.
 #[derive(Clone, Copy, PartialEq, Eq, Debug)]
+#[non_exhaustive]
 pub enum FrameAnswer<'a> {
     /// It is dropped.
     Dropped(Dropped),
@@ -139,7 +186,9 @@ pub enum FrameAnswer<'a> {
     /// A loss reply: the losses of the interval that it ends.
     Loss(Losses),
     /// A delay reply: two-way delay in nanoseconds, and the one-way delays where both middle stamps are given.
-    Delay { twoway: i64, oneway: Option<OneWay> },
+    Delay { two_way: i64, one_way: Option<OneWay> },
+    /// Something was done that this library does not know, by a newer archive.
+    Other(u32),
 }
 
 impl<'a> FrameAnswer<'a> {
@@ -151,12 +200,12 @@ impl<'a> FrameAnswer<'a> {
         match told.done {
             1 => FrameAnswer::Passed,
             2 => FrameAnswer::Taken,
-            3 => FrameAnswer::Replied(&out[..told.length]),
+            3 => FrameAnswer::Replied(front(out, told.length)),
             4 => FrameAnswer::First,
             5 => FrameAnswer::Loss(Losses { near: told.near, far: told.far }),
-            6 => FrameAnswer::Delay { twoway: told.twoway, oneway: None },
-            7 => FrameAnswer::Delay { twoway: told.twoway, oneway: Some(OneWay { far: told.onewayfar, near: told.onewaynear }) },
-            _ => unreachable!("the library tells what was done by 1 to 7 alone"),
+            6 => FrameAnswer::Delay { two_way: told.two_way, one_way: None },
+            7 => FrameAnswer::Delay { two_way: told.two_way, one_way: Some(OneWay { far: told.one_way_far, near: told.one_way_near }) },
+            other => FrameAnswer::Other(other),
         }
     }
 }
@@ -167,16 +216,18 @@ pub struct Settings {
     /// 0 to 7.
     pub level: u32,
     /// 1 to 8,191.
-    pub mep: u32,
-    /// 1 to 7.
+    pub mep_id: u32,
+    /// 1 to 7: 3.33 ms, 10 ms, 100 ms, 1 s, 10 s, 1 min, 10 min.
     pub period: u32,
-    /// How many of `ids` are used, 1 to 8.
-    pub count: u32,
-    /// The peers' MEP IDs, used ones first, 0 in unused slots.
-    pub ids: [u32; PEERS],
+    /// How many of `peer_ids` are used, 1 to 8.
+    pub peers: u32,
     pub own_address: [u8; 6],
+    /// Where LMM and DMM are sent to.
     pub loss_peer: [u8; 6],
-    pub meg: [u8; 48],
+    /// All 48 octets are compared.
+    pub meg_id: [u8; 48],
+    /// The peers' MEP IDs, used ones first, 0 in unused slots.
+    pub peer_ids: [u32; PEERS],
 }
 
 impl Settings {
@@ -185,16 +236,16 @@ impl Settings {
         let mut names = [0; 60];
         names[..6].copy_from_slice(&self.own_address);
         names[6..12].copy_from_slice(&self.loss_peer);
-        names[12..].copy_from_slice(&self.meg);
-        SettingArrays { set: [self.level, self.mep, self.period, self.count], names, ids: self.ids }
+        names[12..].copy_from_slice(&self.meg_id);
+        SettingArrays { set: [self.level, self.mep_id, self.period, self.peers], names, ids: self.peer_ids }
     }
 
     /// From how they lie at a box's front.
-    fn of(SettingArrays { set: [level, mep, period, count], names, ids }: SettingArrays) -> Settings {
-        let mut settings = Settings { level, mep, period, count, ids, own_address: [0; 6], loss_peer: [0; 6], meg: [0; 48] };
+    fn of(SettingArrays { set: [level, mep_id, period, peers], names, ids: peer_ids }: SettingArrays) -> Settings {
+        let mut settings = Settings { level, mep_id, period, peers, own_address: [0; 6], loss_peer: [0; 6], meg_id: [0; 48], peer_ids };
         settings.own_address.copy_from_slice(&names[..6]);
         settings.loss_peer.copy_from_slice(&names[6..12]);
-        settings.meg.copy_from_slice(&names[12..]);
+        settings.meg_id.copy_from_slice(&names[12..]);
         settings
     }
 
@@ -208,12 +259,12 @@ impl Settings {
     /// Writes them as a record into the front of a buffer, and gives the record. Refusals 4 and 3.
     pub fn write<'a>(&self, into: &'a mut [u8]) -> Result<&'a [u8], Refusal> {
         let lying = self.lying();
-        let told = unsafe { ffi::linkbox_write_settings(into.as_mut_ptr(), into.len(), &lying.set, &lying.names, &lying.ids) };
+        let told = unsafe { ffi::linkbox_raw_write_settings(into.as_mut_ptr(), into.len(), &lying.set, &lying.names, &lying.ids) };
         written(told, into)
     }
 }
 
-/// What stands of one peer.
+/// Which conditions of one peer are active.
 #[derive(Clone, Copy, PartialEq, Eq, Debug)]
 pub struct PeerConditions {
     pub id: u32,
@@ -223,7 +274,7 @@ pub struct PeerConditions {
     pub rdi: bool,
 }
 
-/// What stands of a box.
+/// Which conditions of a box are active.
 #[derive(Clone, Copy, PartialEq, Eq, Debug)]
 pub struct Conditions {
     peers: [PeerConditions; PEERS],
@@ -239,12 +290,17 @@ pub struct Conditions {
 impl Conditions {
     /// Of each used peer slot.
     pub fn peers(&self) -> &[PeerConditions] {
-        &self.peers[..self.used]
+        front(&self.peers, self.used)
     }
 }
 
+/// Whether the archive's box has as many octets as this library's. Where it has not, no box can be made.
+pub fn fits() -> bool {
+    unsafe { ffi::linkbox_abi() == size_of::<Arrays>() }
+}
+
 /// A box: what it is set to and what it knows.
-#[derive(Clone, Copy, PartialEq, Eq, Debug)]
+#[derive(Clone, PartialEq, Eq, Debug)]
 pub struct LinkBox {
     arrays: Arrays,
 }
@@ -252,8 +308,11 @@ pub struct LinkBox {
 impl LinkBox {
     /// A box after a new setting: service counts 0, a cleared session, RDI off, a full period to run. Refusal 4.
     pub fn new(settings: &Settings) -> Result<LinkBox, Refusal> {
+        if !fits() {
+            return Err(Refusal::Archive);
+        }
         let lying = settings.lying();
-        let made = unsafe { ffi::linkbox_new_setting(&lying.set, &lying.names, &lying.ids) };
+        let made = unsafe { ffi::linkbox_raw_new_setting(&lying.set, &lying.names, &lying.ids) };
         Refusal::of(made.refusal)?;
         Ok(LinkBox { arrays: made.arrays })
     }
@@ -280,14 +339,16 @@ impl LinkBox {
         Settings::of(SettingArrays { set: a.set, names: a.names, ids: a.ids })
     }
 
-    /// A frame from a side, without its check sequence: `receive` is when it came, `transmit` when a reply will leave. A reply is written into the front
-    /// of `out`. Refusals 2, 1, 6, then 3 or 5.
-    pub fn frame<'a>(&mut self, side: Side, frame: &[u8], receive: Stamp, transmit: Stamp, out: &'a mut [u8]) -> Result<FrameAnswer<'a>, Refusal> {
+    /// A frame from a side, with its padding and without its check sequence: `receive` is when it came, `transmit` when a reply will
+    /// leave. A reply is written into the front of `out`. Refusals 2, 1, 6, then 3 or 5.
+    pub fn frame<'a>(
+        &mut self, side: Side, frame: &[u8], receive: Stamp, transmit: Stamp, out: &'a mut [u8],
+    ) -> Result<FrameAnswer<'a>, Refusal> {
         let a = &mut self.arrays;
         let told = unsafe {
-            ffi::linkbox_frame(
-                &a.set, &a.names, &a.ids, &mut a.timers, &mut a.rdi, &mut a.run, &mut a.totals, side as u32, frame.as_ptr(), frame.len(), receive, transmit,
-                out.as_mut_ptr(), out.len(),
+            ffi::linkbox_raw_frame(
+                &a.set, &a.names, &a.ids, &mut a.timers, &mut a.rdi, &mut a.run, &mut a.totals, side as u32, frame.as_ptr(), frame.len(),
+                receive, transmit, out.as_mut_ptr(), out.len(),
             )
         };
         Refusal::of(told.refusal)?;
@@ -298,49 +359,131 @@ impl LinkBox {
     pub fn tick<'a>(&mut self, out: &'a mut [u8]) -> Result<Option<&'a [u8]>, Refusal> {
         let a = &mut self.arrays;
         let told = unsafe {
-            ffi::linkbox_tick(&a.set, &a.names, &a.ids, &mut a.timers, &a.rdi, &mut a.run, &a.totals, out.as_mut_ptr(), out.len())
+            ffi::linkbox_raw_tick(&a.set, &a.names, &a.ids, &mut a.timers, &a.rdi, &mut a.run, &a.totals, out.as_mut_ptr(), out.len())
         };
         let ccm = written(told, out)?;
         Ok((!ccm.is_empty()).then_some(ccm))
     }
 
+    /// How many ticks are left to the next CCM, the one that gives it counted: 1 or more; 0 where the box is not well formed.
+    pub fn ticks_to_next(&self) -> u32 {
+        let a = &self.arrays;
+        unsafe { ffi::linkbox_raw_ticks_to_next(&a.set, &a.names, &a.ids, &a.timers, &a.rdi, &a.run, &a.totals) }
+    }
+
     /// A clear of the loss session. Refusal 2.
     pub fn clear(&mut self) -> Result<(), Refusal> {
         let a = &mut self.arrays;
-        Refusal::of(unsafe { ffi::linkbox_clear(&a.set, &a.names, &a.ids, &a.timers, &a.rdi, &mut a.run, &mut a.totals) })
+        Refusal::of(unsafe { ffi::linkbox_raw_clear(&a.set, &a.names, &a.ids, &a.timers, &a.rdi, &mut a.run, &mut a.totals) })
     }
 
     /// An LMM, to be sent to the loss peer. Refusals 2 and 3.
     pub fn send_lmm<'a>(&self, out: &'a mut [u8]) -> Result<&'a [u8], Refusal> {
         let a = &self.arrays;
-        let told = unsafe { ffi::linkbox_send_lmm(&a.set, &a.names, &a.ids, &a.timers, &a.rdi, &a.run, &a.totals, out.as_mut_ptr(), out.len()) };
+        let told = unsafe {
+            ffi::linkbox_raw_send_lmm(&a.set, &a.names, &a.ids, &a.timers, &a.rdi, &a.run, &a.totals, out.as_mut_ptr(), out.len())
+        };
         written(told, out)
     }
 
     /// A DMM with the caller's stamp, to be sent to the loss peer. Refusals 2, 6 and 3.
     pub fn send_dmm<'a>(&self, stamp: Stamp, out: &'a mut [u8]) -> Result<&'a [u8], Refusal> {
         let a = &self.arrays;
-        let told =
-            unsafe { ffi::linkbox_send_dmm(&a.set, &a.names, &a.ids, &a.timers, &a.rdi, &a.run, &a.totals, stamp, out.as_mut_ptr(), out.len()) };
+        let told = unsafe {
+            ffi::linkbox_raw_send_dmm(&a.set, &a.names, &a.ids, &a.timers, &a.rdi, &a.run, &a.totals, stamp, out.as_mut_ptr(), out.len())
+        };
         written(told, out)
     }
 
-    /// What stands. Refusal 2.
+    /// The loss line of the box's session as a record (kind 2, 24 octets), to be stored. Refusals 2 and 3.
+    pub fn loss_line<'a>(&self, into: &'a mut [u8]) -> Result<&'a [u8], Refusal> {
+        let a = &self.arrays;
+        let told = unsafe {
+            ffi::linkbox_raw_loss_line(&a.set, &a.names, &a.ids, &a.timers, &a.rdi, &a.run, &a.totals, into.as_mut_ptr(), into.len())
+        };
+        written(told, into)
+    }
+
+    /// Which conditions are active. It tests the whole box, as the reads below do not. Refusal 2.
     pub fn conditions(&self) -> Result<Conditions, Refusal> {
         let a = &self.arrays;
-        let told = unsafe { ffi::linkbox_conditions(&a.set, &a.names, &a.ids, &a.timers, &a.rdi, &a.run, &a.totals) };
+        let told = unsafe { ffi::linkbox_raw_conditions(&a.set, &a.names, &a.ids, &a.timers, &a.rdi, &a.run, &a.totals) };
         Refusal::of(told.refusal)?;
         let flags = told.conditions;
         Ok(Conditions {
             peers: core::array::from_fn(|i| PeerConditions { id: a.ids[i], lost: flags.lost[i] != 0, rdi: flags.rdi[i] != 0 }),
             used: a.set[3] as usize,
             mismerge: flags.mismerge != 0,
-            unexpected_mep: flags.unexpectedmep != 0,
-            unexpected_period: flags.unexpectedperiod != 0,
-            unexpected_level: flags.unexpectedlevel != 0,
+            unexpected_mep: flags.unexpected_mep != 0,
+            unexpected_period: flags.unexpected_period != 0,
+            unexpected_level: flags.unexpected_level != 0,
             ais: flags.ais != 0,
             lck: flags.lck != 0,
         })
+    }
+}
+
+/// Reads: each is one word of a box as it lies, and judges nothing. In a box that is not well formed the words mean nothing;
+/// [`LinkBox::conditions`] is the call that tests.
+impl LinkBox {
+    /// Service frames sent, modulo 2^32.
+    pub fn sent(&self) -> u32 {
+        self.arrays.run[7]
+    }
+
+    /// Service frames received, modulo 2^32.
+    pub fn received(&self) -> u32 {
+        self.arrays.run[8]
+    }
+
+    /// The loss session's near total, in frames.
+    pub fn near_total(&self) -> i64 {
+        self.arrays.totals[0]
+    }
+
+    /// The loss session's far total, in frames.
+    pub fn far_total(&self) -> i64 {
+        self.arrays.totals[1]
+    }
+
+    /// The intervals that the totals cover.
+    pub fn intervals(&self) -> u32 {
+        self.arrays.run[14]
+    }
+
+    /// The ticks for which mismerge stays active if nothing renews it, 0 while it is not; and so of the five after it.
+    pub fn mismerge(&self) -> u32 {
+        self.arrays.run[0]
+    }
+
+    pub fn unexpected_level(&self) -> u32 {
+        self.arrays.run[1]
+    }
+
+    pub fn unexpected_mep(&self) -> u32 {
+        self.arrays.run[2]
+    }
+
+    pub fn unexpected_period(&self) -> u32 {
+        self.arrays.run[3]
+    }
+
+    pub fn ais(&self) -> u32 {
+        self.arrays.run[4]
+    }
+
+    pub fn lck(&self) -> u32 {
+        self.arrays.run[5]
+    }
+
+    /// The ticks until the continuity of the peer in a slot is lost, 0 while it is or the slot is unused. Nothing from slot 8 on.
+    pub fn peer_timer(&self, slot: usize) -> Option<u32> {
+        self.arrays.timers.get(slot).copied()
+    }
+
+    /// 1 while the last CCM of the peer in a slot had RDI. Nothing from slot 8 on.
+    pub fn peer_rdi(&self, slot: usize) -> Option<u32> {
+        self.arrays.rdi.get(slot).copied()
     }
 }
 
@@ -386,12 +529,17 @@ pub fn find_tlv(frame: &[u8], kind: u8) -> Result<TlvAnswer<'_>, Refusal> {
     Ok(match Dropped::of(told.drop) {
         Some(why) => TlvAnswer::Dropped(why),
         None if told.value == 0 => TlvAnswer::Absent,
-        None => TlvAnswer::Value(&frame[told.start..][..told.length]),
+        None => TlvAnswer::Value(front(frame.get(told.start..).unwrap_or_default(), told.length)),
     })
 }
 
 /// What a call has written into the front of a buffer.
 fn written(told: ffi::Written, into: &[u8]) -> Result<&[u8], Refusal> {
     Refusal::of(told.refusal)?;
-    Ok(&into[..told.length])
+    Ok(front(into, told.length))
+}
+
+/// The first so many, or all where there are fewer, which no archive answers.
+fn front<T>(all: &[T], count: usize) -> &[T] {
+    all.get(..count).unwrap_or(all)
 }

@@ -563,18 +563,18 @@ def meant(path, text):
     return lines
 
 
-# One call with its expected line
+# One call with its expected line; without one it has no answer yet
 def call(line, after):
     name, *words = words_of(line.text)
     if name not in CALLS:
         raise Wrong(f"no call is named '{name}'; there are {', '.join(CALLS)}")
-    if after is None or not after.text.startswith("> "):
-        raise Wrong(f"the call {name} has no expected line behind it")
     kind = CALLS[name]
     body = kind.body(words)
     octets = record(kind.number, body.octets)
     if len(octets) - 2 > MOST_LENGTH:
         raise Wrong(f"a call has at most {MOST_LENGTH} octets behind its length")
+    if after is None:
+        return Call(line, name, octets, None, body.side, body.frame, b"")
     try:
         answer, written = expected(name, body, after.text[2:])
     except Wrong as wrong:
@@ -598,11 +598,16 @@ def times(line):
     return int(found[1])
 
 
+# The expected line at a place, if there is one
+def expected_at(lines, at):
+    return lines[at] if at < len(lines) and lines[at].text.startswith("> ") else None
+
+
 # The steps from one line on, to the end of the file or of the repeat, and the line behind them
 def steps_from(lines, at, repeat=None):
     steps = []
     while at < len(lines):
-        line, after = lines[at], lines[at + 1] if at + 1 < len(lines) else None
+        line, after = lines[at], expected_at(lines, at + 1)
         word = line.text.split()[0]
         try:
             if word == "end":
@@ -619,7 +624,7 @@ def steps_from(lines, at, repeat=None):
                 at += 1
             else:
                 steps.append(call(line, after))
-                at += 2
+                at += 2 if after else 1
         except Wrong as wrong:
             raise wrong.at(line) from None
     if repeat is not None:
@@ -647,10 +652,19 @@ def timed(steps):
     return out
 
 
-# A run's steps in time, from its file
-def read_run(path):
+# A run's steps, from its file
+def read_steps(path):
     with open(path, encoding="utf-8") as file:
-        return timed(steps_from(meant(path, file.read()), 0)[0])
+        return steps_from(meant(path, file.read()), 0)[0]
+
+
+# A run's steps in time, each call with its expected line
+def read_run(path):
+    steps = read_steps(path)
+    for step in steps:
+        if isinstance(step, Call) and step.answer is None:
+            raise Wrong(f"the call {step.name} has no expected line behind it").at(step.line)
+    return timed(steps)
 
 
 # A run's calls

@@ -78,7 +78,7 @@ def compare_reading(findings, where, shown, reading):
         compare_ccm(findings, where, shown, reading.message)
     if gives_up(shown):
         return
-    bad = reading.reason == ("drop", "5")
+    bad = reading.reason == ("dropped", "5")
     findings.same(where, "reason", reason_shown(shown), "5" if bad else None)
     if not bad:
         compare_tlvs(findings, where, shown, tlvs_from(reading.frame, 18 + reading.frame[17]))

@@ -58,7 +58,7 @@ def compare_reading(findings, where, shown, reading):
     findings.same(where, "reason", reason_shown(shown), reading.reason[1] if reading.reason else None)
     if reading.message:
         compare_message(findings, where, shown, reading.message | octets_beside(reading.frame))
-    if not reading.tlv.startswith("drop"):
+    if not reading.tlv.startswith("dropped"):
         findings.same(where, "TLV asked for", tlv_shown(shown, reading.asked), reading.tlv)
 
 

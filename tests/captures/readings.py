@@ -10,7 +10,7 @@ class Reading:
     def __init__(self, asked, frame, line):
         self.asked, self.frame, self.line = asked, frame, line
         message, self.tlv = line.split(" | ")
-        self.reason = tuple(message.split()) if message.startswith(("drop", "refusal")) else None
+        self.reason = tuple(message.split()) if message.startswith(("dropped", "refused")) else None
         self.message = None if self.reason else fields(message)
 
 

@@ -10,8 +10,8 @@ enum { MOST = 2000, ROOM = 1600, SETTINGS = 81, STATE = 194, SESSION = 37, LINE 
 
 /* What is held from call to call. */
 struct held {
-    struct linkbox_box box;
-    struct linkbox_loss_session session;
+    struct linkbox box;
+    struct linkbox_session session;
     uint8_t buffer[ROOM];
 };
 
@@ -141,42 +141,42 @@ static struct linkbox_stamp take_stamp(struct rest *body) {
 /* Settings, as they stand in a record's body. */
 static struct linkbox_settings take_settings(struct rest *body) {
     struct linkbox_settings settings;
-    settings.set[LINKBOX_LEVEL] = take_word(body, 1);
-    settings.set[LINKBOX_MEP] = take_word(body, 2);
-    take_octets(body, settings.names + LINKBOX_OWN, 6);
-    settings.set[LINKBOX_PERIOD] = take_word(body, 1);
-    take_octets(body, settings.names + LINKBOX_MEG, 48);
-    take_octets(body, settings.names + LINKBOX_LOSS_PEER, 6);
-    settings.set[LINKBOX_COUNT] = take_word(body, 1);
-    for (size_t i = 0; i < LINKBOX_PEERS; i++) settings.ids[i] = take_word(body, 2);
+    settings.level = take_word(body, 1);
+    settings.mep_id = take_word(body, 2);
+    take_octets(body, settings.own_address, LINKBOX_LEN_ADDRESS);
+    settings.period = take_word(body, 1);
+    take_octets(body, settings.meg_id, LINKBOX_LEN_MEG_ID);
+    take_octets(body, settings.loss_peer, LINKBOX_LEN_ADDRESS);
+    settings.peers = take_word(body, 1);
+    for (size_t i = 0; i < LINKBOX_LEN_PEERS; i++) settings.peer_ids[i] = take_word(body, 2);
     return settings;
 }
 
 /* The running words of a state, in the order in which a state is put and shown. */
-static const size_t RUNNING[] = {LINKBOX_MISMERGE, LINKBOX_UNEXPECTED_MEP, LINKBOX_UNEXPECTED_PERIOD, LINKBOX_UNEXPECTED_LEVEL,
-                                 LINKBOX_AIS,      LINKBOX_LCK,            LINKBOX_NEXT};
+static const size_t RUNNING[] = {LINKBOX_AT_MISMERGE, LINKBOX_AT_UNEXPECTED_MEP, LINKBOX_AT_UNEXPECTED_PERIOD, LINKBOX_AT_UNEXPECTED_LEVEL,
+                                 LINKBOX_AT_AIS,      LINKBOX_AT_LCK,            LINKBOX_AT_NEXT};
 
 enum { RUNNING_COUNT = sizeof RUNNING / sizeof RUNNING[0] };
 
 /* The four readings of a state's session. */
-static const size_t READING[] = {LINKBOX_TXFCF, LINKBOX_RXFCF, LINKBOX_TXFCB, LINKBOX_OURS};
+static const size_t READING[] = {LINKBOX_AT_TXFCF, LINKBOX_AT_RXFCF, LINKBOX_AT_TXFCB, LINKBOX_AT_OURS};
 
 enum { READING_COUNT = sizeof READING / sizeof READING[0] };
 
 /* A state. Its settings lie at its front. */
-static void take_state(struct rest *body, struct linkbox_box *box) {
+static void take_state(struct rest *body, struct linkbox *box) {
     const struct linkbox_settings settings = take_settings(body);
-    linkbox_copy(box, &settings, sizeof settings);
-    box->run[LINKBOX_SENT] = take_word(body, 4);
-    box->run[LINKBOX_RECEIVED] = take_word(body, 4);
-    for (size_t i = 0; i < LINKBOX_PEERS; i++) box->timers[i] = take_word(body, 4);
-    for (size_t i = 0; i < LINKBOX_PEERS; i++) box->rdi[i] = take_word(body, 1);
+    linkbox_raw_copy(box, &settings, sizeof settings);
+    box->run[LINKBOX_AT_SENT] = take_word(body, 4);
+    box->run[LINKBOX_AT_RECEIVED] = take_word(body, 4);
+    for (size_t i = 0; i < LINKBOX_LEN_PEERS; i++) box->timers[i] = take_word(body, 4);
+    for (size_t i = 0; i < LINKBOX_LEN_PEERS; i++) box->rdi[i] = take_word(body, 1);
     for (size_t i = 0; i < RUNNING_COUNT; i++) box->run[RUNNING[i]] = take_word(body, 4);
-    box->run[LINKBOX_KEPT] = take_word(body, 1);
+    box->run[LINKBOX_AT_KEPT] = take_word(body, 1);
     for (size_t i = 0; i < READING_COUNT; i++) box->run[READING[i]] = take_word(body, 4);
-    box->totals[LINKBOX_NEAR] = take_signed(body);
-    box->totals[LINKBOX_FAR] = take_signed(body);
-    box->run[LINKBOX_INTERVALS] = take_word(body, 4);
+    box->totals[LINKBOX_AT_NEAR] = take_signed(body);
+    box->totals[LINKBOX_AT_FAR] = take_signed(body);
+    box->run[LINKBOX_AT_INTERVALS] = take_word(body, 4);
 }
 
 /* Four readings. */
@@ -193,41 +193,41 @@ static struct linkbox_readings take_readings(struct rest *body) {
 
 /* Settings as they stand in a record's body. */
 static void print_settings(const struct linkbox_settings *settings) {
-    print_little(settings->set[LINKBOX_LEVEL], 1);
-    print_little(settings->set[LINKBOX_MEP], 2);
-    print_octets(settings->names + LINKBOX_OWN, 6);
-    print_little(settings->set[LINKBOX_PERIOD], 1);
-    print_octets(settings->names + LINKBOX_MEG, 48);
-    print_octets(settings->names + LINKBOX_LOSS_PEER, 6);
-    print_little(settings->set[LINKBOX_COUNT], 1);
-    for (size_t i = 0; i < LINKBOX_PEERS; i++) print_little(settings->ids[i], 2);
+    print_little(settings->level, 1);
+    print_little(settings->mep_id, 2);
+    print_octets(settings->own_address, LINKBOX_LEN_ADDRESS);
+    print_little(settings->period, 1);
+    print_octets(settings->meg_id, LINKBOX_LEN_MEG_ID);
+    print_octets(settings->loss_peer, LINKBOX_LEN_ADDRESS);
+    print_little(settings->peers, 1);
+    for (size_t i = 0; i < LINKBOX_LEN_PEERS; i++) print_little(settings->peer_ids[i], 2);
 }
 
 /* A state. */
-static void print_state(const struct linkbox_box *box) {
-    const struct linkbox_settings settings = linkbox_box_settings(box);
+static void print_state(const struct linkbox *box) {
+    const struct linkbox_settings settings = linkbox_settings_of(box);
     print_settings(&settings);
-    print_little(box->run[LINKBOX_SENT], 4);
-    print_little(box->run[LINKBOX_RECEIVED], 4);
-    for (size_t i = 0; i < LINKBOX_PEERS; i++) print_little(box->timers[i], 4);
-    for (size_t i = 0; i < LINKBOX_PEERS; i++) print_little(box->rdi[i], 1);
+    print_little(box->run[LINKBOX_AT_SENT], 4);
+    print_little(box->run[LINKBOX_AT_RECEIVED], 4);
+    for (size_t i = 0; i < LINKBOX_LEN_PEERS; i++) print_little(box->timers[i], 4);
+    for (size_t i = 0; i < LINKBOX_LEN_PEERS; i++) print_little(box->rdi[i], 1);
     for (size_t i = 0; i < RUNNING_COUNT; i++) print_little(box->run[RUNNING[i]], 4);
-    print_little(box->run[LINKBOX_KEPT], 1);
+    print_little(box->run[LINKBOX_AT_KEPT], 1);
     for (size_t i = 0; i < READING_COUNT; i++) print_little(box->run[READING[i]], 4);
-    print_little((uint64_t)box->totals[LINKBOX_NEAR], 8);
-    print_little((uint64_t)box->totals[LINKBOX_FAR], 8);
-    print_little(box->run[LINKBOX_INTERVALS], 4);
+    print_little((uint64_t)box->totals[LINKBOX_AT_NEAR], 8);
+    print_little((uint64_t)box->totals[LINKBOX_AT_FAR], 8);
+    print_little(box->run[LINKBOX_AT_INTERVALS], 4);
 }
 
 /* A lent session. */
-static void print_session(const struct linkbox_loss_session *session) {
+static void print_session(const struct linkbox_session *session) {
     print_little(session->kept, 1);
     print_little(session->last.txf, 4);
     print_little(session->last.rxf, 4);
     print_little(session->last.txb, 4);
     print_little(session->last.ours, 4);
-    print_little((uint64_t)session->near, 8);
-    print_little((uint64_t)session->far, 8);
+    print_little((uint64_t)session->near_loss, 8);
+    print_little((uint64_t)session->far_loss, 8);
     print_little(session->intervals, 4);
 }
 
@@ -256,18 +256,18 @@ static void print_losses(int64_t near, int64_t far) {
 }
 
 /* What was done with a frame that was neither refused nor dropped. */
-static void print_frame_done(const struct linkbox_frame_told *told) {
+static void print_frame_done(const struct linkbox_frame_answer *told) {
     switch (told->done) {
-    case LINKBOX_PASSED: print_text("passed"); break;
-    case LINKBOX_TAKEN: print_text("taken"); break;
-    case LINKBOX_REPLIED: print_said("replied", (int64_t)told->length); break;
-    case LINKBOX_FIRST:
-    case LINKBOX_LOSS: print_losses(told->near, told->far); break;
-    case LINKBOX_TWO_WAY: print_said("delay", told->twoway); break;
-    case LINKBOX_ALL_WAYS:
-        print_said("delay", told->twoway);
-        print_number(told->onewayfar);
-        print_number(told->onewaynear);
+    case LINKBOX_DONE_PASSED: print_text("passed"); break;
+    case LINKBOX_DONE_TAKEN: print_text("taken"); break;
+    case LINKBOX_DONE_REPLIED: print_said("replied", (int64_t)told->length); break;
+    case LINKBOX_DONE_FIRST:
+    case LINKBOX_DONE_LOSS: print_losses(told->near_loss, told->far_loss); break;
+    case LINKBOX_DONE_TWO_WAY: print_said("delay", told->two_way); break;
+    case LINKBOX_DONE_ALL_WAYS:
+        print_said("delay", told->two_way);
+        print_number(told->one_way_far);
+        print_number(told->one_way_near);
         break;
     default: print_text("no such answer"); break;
     }
@@ -288,13 +288,13 @@ static void print_condition(uint32_t stands, const char *word) {
 }
 
 /* What stands, peer by peer and then the others. */
-static void print_conditions(const struct linkbox_box *box, const struct linkbox_condition_flags *flags) {
+static void print_conditions(const struct linkbox *box, const struct linkbox_conditions_answer *flags) {
     print_text("conditions");
-    for (size_t i = 0; i < LINKBOX_PEERS && i < box->set[LINKBOX_COUNT]; i++) print_peer(box->ids[i], flags->lost[i], flags->rdi[i]);
+    for (size_t i = 0; i < LINKBOX_LEN_PEERS && i < box->set[LINKBOX_AT_PEERS]; i++) print_peer(box->ids[i], flags->lost[i], flags->rdi[i]);
     print_condition(flags->mismerge, " mismerge");
-    print_condition(flags->unexpectedmep, " mep");
-    print_condition(flags->unexpectedperiod, " period");
-    print_condition(flags->unexpectedlevel, " level");
+    print_condition(flags->unexpected_mep, " mep");
+    print_condition(flags->unexpected_period, " period");
+    print_condition(flags->unexpected_level, " level");
     print_condition(flags->ais, " ais");
     print_condition(flags->lck, " lck");
 }
@@ -306,17 +306,19 @@ static uint8_t *part(struct held *held, const struct call *call) {
     return call->room == 0 ? NULL : held->buffer;
 }
 
-/* Tells whether the call for a whole box gives the same number, and leaves the box that was handed out, or the one before where it refuses. */
-static int box_follows(struct linkbox_box box, const struct linkbox_settings *settings, const struct linkbox_new_box *made) {
-    const struct linkbox_box before = box;
-    if (linkbox_box_new_setting(&box, settings) != made->refusal) return 0;
+/* Tells whether the call for a whole box gives the same number, and leaves the box that was handed out, or the one before where it refuses.
+ */
+static int box_follows(struct linkbox box, const struct linkbox_settings *settings, const struct linkbox_raw_new_box *made) {
+    const struct linkbox before = box;
+    if (linkbox_new_setting(&box, settings) != made->refusal) return 0;
     return same_octets(&box, made->refusal == 0 ? &made->box : &before, sizeof box);
 }
 
 /* 257: the box that is handed out becomes the held one, zeros where the setting is refused. */
 static void new_setting(struct held *held, struct call *call) {
     const struct linkbox_settings settings = take_settings(&call->body);
-    const struct linkbox_new_box made = linkbox_new_setting(settings.set, settings.names, settings.ids);
+    const struct linkbox_raw_new_box made =
+        linkbox_raw_new_setting(linkbox_raw_set(&settings), linkbox_raw_names(&settings), settings.peer_ids);
     if (!box_follows(held->box, &settings, &made)) print_text("the call for a whole box differs: ");
     held->box = made.box;
     print_done(made.refusal, "set");
@@ -329,7 +331,8 @@ static void frame(struct held *held, struct call *call) {
     struct linkbox_stamp receive = take_stamp(&call->body);
     struct linkbox_stamp transmit = take_stamp(&call->body);
     const uint8_t *octets = call->body.left == 0 ? NULL : call->body.at;
-    struct linkbox_frame_told told = linkbox_box_frame(&held->box, side, octets, call->body.left, receive, transmit, part(held, call), call->room);
+    struct linkbox_frame_answer told =
+        linkbox_frame(&held->box, side, octets, call->body.left, receive, transmit, part(held, call), call->room);
     if (print_refused(told.refusal)) return;
     if (told.drop != 0) {
         print_said("dropped", told.drop);
@@ -340,7 +343,7 @@ static void frame(struct held *held, struct call *call) {
 
 /* 259 */
 static void tick(struct held *held, struct call *call) {
-    struct linkbox_tick_told told = linkbox_box_tick(&held->box, part(held, call), call->room);
+    struct linkbox_written told = linkbox_tick(&held->box, part(held, call), call->room);
     if (told.length != 0) {
         print_sent(told.refusal, told.length);
     } else {
@@ -350,14 +353,14 @@ static void tick(struct held *held, struct call *call) {
 
 /* 261 */
 static void send_lmm(struct held *held, struct call *call) {
-    struct linkbox_send_told told = linkbox_box_send_lmm(&held->box, part(held, call), call->room);
+    struct linkbox_written told = linkbox_send_lmm(&held->box, part(held, call), call->room);
     print_sent(told.refusal, told.length);
 }
 
 /* 262 */
 static void send_dmm(struct held *held, struct call *call) {
     take(&call->body, 2);
-    struct linkbox_send_told told = linkbox_box_send_dmm(&held->box, take_stamp(&call->body), part(held, call), call->room);
+    struct linkbox_written told = linkbox_send_dmm(&held->box, take_stamp(&call->body), part(held, call), call->room);
     print_sent(told.refusal, told.length);
 }
 
@@ -376,11 +379,11 @@ static void show_state(const struct held *held) {
 /* 265 */
 static void ask_tlv(struct call *call) {
     uint8_t kind = (uint8_t)take(&call->body, 1);
-    struct linkbox_tlv_told told = linkbox_tlv_in(call->body.left == 0 ? NULL : call->body.at, call->body.left, kind);
+    struct linkbox_tlv_answer told = linkbox_tlv(call->body.at, call->body.left, kind);
     if (print_refused(told.refusal)) return;
     if (told.drop != 0) {
         print_said("dropped", told.drop);
-    } else if (told.value == 0) {
+    } else if (told.found == 0) {
         print_text("none");
     } else if (told.start > call->body.left || told.length > call->body.left - told.start) {
         print_text("a value outside the frame");
@@ -394,8 +397,8 @@ static void ask_tlv(struct call *call) {
 static void put_session(struct held *held, struct call *call) {
     held->session.kept = take_word(&call->body, 1);
     held->session.last = take_readings(&call->body);
-    held->session.near = take_signed(&call->body);
-    held->session.far = take_signed(&call->body);
+    held->session.near_loss = take_signed(&call->body);
+    held->session.far_loss = take_signed(&call->body);
     held->session.intervals = take_word(&call->body, 4);
     print_text("set");
 }
@@ -403,16 +406,16 @@ static void put_session(struct held *held, struct call *call) {
 /* 267 */
 static void measure(struct held *held, struct call *call) {
     struct linkbox_readings now = take_readings(&call->body);
-    struct linkbox_loss_told told = linkbox_measure(&held->session, now.txf, now.rxf, now.txb, now.ours);
+    struct linkbox_loss_answer told = linkbox_measure(&held->session, now.txf, now.rxf, now.txb, now.ours);
     if (print_refused(told.refusal)) return;
-    print_losses(told.near, told.far);
+    print_losses(told.near_loss, told.far_loss);
     print_text(" session ");
     print_session(&held->session);
 }
 
 /* 268 */
 static void read_settings(struct call *call) {
-    struct linkbox_settings_read read = linkbox_settings_in(call->body.left == 0 ? NULL : call->body.at, call->body.left);
+    struct linkbox_settings_answer read = linkbox_read_settings(call->body.at, call->body.left);
     if (print_refused(read.refusal)) return;
     print_text("settings ");
     print_settings(&read.settings);
@@ -422,34 +425,34 @@ static void read_settings(struct call *call) {
 static void write_settings(struct held *held, struct call *call) {
     take(&call->body, 2);
     const struct linkbox_settings settings = take_settings(&call->body);
-    struct linkbox_record_told told = linkbox_put_settings(part(held, call), call->room, &settings);
+    struct linkbox_written told = linkbox_write_settings(part(held, call), call->room, &settings);
     print_sent(told.refusal, told.length);
 }
 
 /* 270 */
 static void read_line(struct call *call) {
-    struct linkbox_line_told told = linkbox_line_in(call->body.left == 0 ? NULL : call->body.at, call->body.left);
+    struct linkbox_line_answer told = linkbox_read_line(call->body.at, call->body.left);
     if (print_refused(told.refusal)) return;
     print_said("line", told.intervals);
-    print_number(told.near);
-    print_number(told.far);
+    print_number(told.near_loss);
+    print_number(told.far_loss);
 }
 
 /* 271 */
 static void write_line(struct held *held, struct call *call) {
-    struct linkbox_loss_line line;
+    struct linkbox_line line;
     take(&call->body, 2);
-    line.near = take_signed(&call->body);
-    line.far = take_signed(&call->body);
+    line.near_loss = take_signed(&call->body);
+    line.far_loss = take_signed(&call->body);
     line.intervals = take_word(&call->body, 4);
-    struct linkbox_record_told told = linkbox_put_line(part(held, call), call->room, line);
+    struct linkbox_written told = linkbox_write_line(held->buffer, call->room, line);
     print_sent(told.refusal, told.length);
 }
 
 /* 272 */
 static void conditions(const struct held *held) {
-    struct linkbox_conditions_told told = linkbox_box_conditions(&held->box);
-    if (!print_refused(told.refusal)) print_conditions(&held->box, &told.conditions);
+    struct linkbox_conditions_answer told = linkbox_conditions(&held->box);
+    if (!print_refused(told.refusal)) print_conditions(&held->box, &told);
 }
 
 /* The answer of a call, without what its line ends in. */
@@ -458,7 +461,7 @@ static void answer(struct held *held, struct call *call) {
     case 257: new_setting(held, call); break;
     case 258: frame(held, call); break;
     case 259: tick(held, call); break;
-    case 260: print_done(linkbox_box_clear(&held->box), "cleared"); break;
+    case 260: print_done(linkbox_clear(&held->box), "cleared"); break;
     case 261: send_lmm(held, call); break;
     case 262: send_dmm(held, call); break;
     case 263: put_state(held, call); break;
@@ -472,6 +475,22 @@ static void answer(struct held *held, struct call *call) {
     case 271: write_line(held, call); break;
     default: conditions(held); break;
     }
+}
+
+/* ── what is not recorded ── */
+
+/* Tells whether the box's own loss line is that of its totals and intervals, and its ticks to the next CCM are its own word; in a box that
+ * is not well formed the line is refused with 2 and the ticks are 0; and 23 octets are no room. */
+static int line_follows(const struct linkbox *box) {
+    uint8_t own[LINKBOX_LEN_LINE_RECORD] = {0}, wanted[LINKBOX_LEN_LINE_RECORD] = {0};
+    const uint32_t refusal = linkbox_conditions(box).refusal;
+    const struct linkbox_line line = {linkbox_near_total(box), linkbox_far_total(box), linkbox_intervals(box)};
+    const uint32_t short_by_one = linkbox_loss_line(box, own, sizeof own - 1).refusal;
+    if (short_by_one != (refusal != 0 ? refusal : LINKBOX_REFUSED_ROOM) || !same_octets(own, wanted, sizeof own)) return 0;
+    const struct linkbox_written told = linkbox_loss_line(box, own, sizeof own);
+    if (refusal == 0 && linkbox_write_line(wanted, sizeof wanted, line).length != told.length) return 0;
+    if (told.refusal != refusal || !same_octets(own, wanted, sizeof own)) return 0;
+    return linkbox_ticks_to_next(box) == (refusal != 0 ? 0 : box->run[LINKBOX_AT_NEXT]);
 }
 
 /* ── the run ── */
@@ -522,6 +541,7 @@ static int run_call(struct held *held, struct call *call) {
     size_t buffer_at = shape_of(call->number)->buffer_at;
     refill(held);
     answer(held, call);
+    if (!line_follows(&held->box)) print_text(" (the box's own line differs)");
     if (buffer_at != NO_BUFFER) {
         print_text(" | ");
         print_part(held->buffer, call->room);

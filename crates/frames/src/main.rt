@@ -1,7 +1,8 @@
 // Prints what frames, given in hex, read as.
 // Standard input has a frame a line, in hex: the TLV type that is asked for, then the frame's octets; blanks are passed over, and `#`
-// begins a comment, so a fitter can type it. Each line prints its message with the fields, or the refusal or drop, and after a bar what
-// the reader says of the TLV. The test input has a reason above each frame, decided from the papers and not from the program.
+// begins a comment, so a fitter can type it. Each line prints its message with the fields, or `refused N` or `dropped N`, and after a bar
+// what the reader says of the TLV. A line that is not octets is named on standard error too. Any argument gets a usage line there, and
+// nothing is printed. The test input has a reason above each frame, decided from the papers and not from the program.
 use base_stamp::Stamp;
 use frame_ccm::ccm_fields;
 use frame_ccm::meg_id;
@@ -16,6 +17,7 @@ use frame_message_answer::tell as tell_message;
 use frame_reader::tlv_answer;
 use frame_reader::tlv_value;
 use frame_reader_answer::tell as tell_tlv;
+use libc::STDERR_FILENO;
 use libc::STDIN_FILENO;
 use libc::STDOUT_FILENO;
 
@@ -49,11 +51,11 @@ fn print_stamp(word: &[u8], stamp: Stamp) {
 // A refusal or a drop; tells whether there was one.
 fn print_reason(refusal: u32, drop: u32) -> bool {
     if refusal != 0 {
-        print_number(b"refusal ", refusal);
+        print_number(b"refused ", refusal);
         return true;
     }
     if drop != 0 {
-        print_number(b"drop ", drop);
+        print_number(b"dropped ", drop);
         return true;
     }
     false
@@ -165,6 +167,8 @@ const LINE: usize = 2048;
 
 // Where a line stands.
 struct Marks {
+    // The line's number, counted from 1.
+    number: u64,
     // The octets that are whole.
     at: usize,
     // The first digit of an octet whose second is still to come.
@@ -177,8 +181,9 @@ struct Marks {
 }
 
 // At the start of a line.
-fn no_marks() -> Marks {
+fn no_marks(number: u64) -> Marks {
     Marks {
+        number,
         at: 0,
         half: false,
         high: 0,
@@ -255,7 +260,8 @@ fn take_inner(line: &mut [u8; LINE], before: Marks, c: u8) -> Marks {
 fn take(line: &mut [u8; LINE], before: Marks, c: u8) -> Marks {
     if c == b'\n' {
         end_line(line, before);
-        return no_marks();
+        // it never wraps: no input has so many lines
+        return no_marks(std::num::wrapping_add_u64(before.number, 1));
     }
     take_inner(line, before, c)
 }
@@ -269,6 +275,9 @@ fn end_line(line: &[u8; LINE], marks: Marks) {
     let at = marks.at;
     if marks.wrong | marks.half {
         io::write_all(STDOUT_FILENO, b"not octets\n");
+        io::write_all(STDERR_FILENO, b"frames: line ");
+        io::print_decimal(STDERR_FILENO, marks.number);
+        io::write_all(STDERR_FILENO, b": not octets\n");
         return;
     }
     if at < 1 {
@@ -280,7 +289,7 @@ fn end_line(line: &[u8; LINE], marks: Marks) {
     show(&all[1..at], all[0]);
 }
 
-// The marks behind a chunk of input, and whether more may come.
+// The marks after a chunk of input, and whether more may come.
 struct Turn {
     marks: Marks,
     more: bool,
@@ -308,8 +317,15 @@ fn read_chunk(line: &mut [u8; LINE], marks: Marks) -> Turn {
 }
 
 fn main() {
+    if 1 < os::arg_count() {
+        io::write_all(
+            STDERR_FILENO,
+            b"usage: frames < TEXT    (no arguments; a TLV type and a frame a line, in hex)\n",
+        );
+        return;
+    }
     let mut line = [0u8; LINE];
-    let mut marks = no_marks();
+    let mut marks = no_marks(1);
     // a loop must be shown to end, and nothing says that input does
     let mut turns = u64::MAX;
     while turns > 0 {

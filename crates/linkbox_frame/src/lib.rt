@@ -1,5 +1,5 @@
 // The boundary to C: a frame to a box, on the arrays that hold the state, told in the paper's numbers.
-// It is for firmware in C or Rust; linkbox.h declares it. It calls the function of its room and tells its answer.
+// It is for firmware in C or Rust; linkbox_raw.h declares it. It calls the function of its room and tells its answer.
 // Any content of the memory is a value. What a caller sees to is that the pointers are to memory of these sizes, and that what is written
 // overlaps nothing else that is handed over.
 ghost use mathlib.Core.Path.{_≡_};
@@ -32,7 +32,7 @@ fn side_of(number: u32) -> Side
 
 // A frame from a side, 0 for the active one and any other number for the passive one; a reply is written into the front of the buffer.
 #[no_mangle]
-pub extern "C" fn linkbox_frame(
+pub extern "C" fn linkbox_raw_frame(
     set: &Set,
     names: &Names,
     ids: &Slots,

@@ -1,5 +1,5 @@
 // The boundary to C: stored settings and loss lines read and written, told in the paper's numbers.
-// These are for firmware in C or Rust; linkbox.h declares them. Each calls the function of its room and tells its answer.
+// These are for firmware in C or Rust; linkbox.h and linkbox_raw.h declare them. Each calls the function of its room and tells its answer.
 // Any content of the memory is a value. What a caller sees to is that the pointers are to memory of these sizes, and that what is written
 // overlaps nothing else that is handed over.
 ghost use mathlib.Core.Path.{_≡_};
@@ -26,7 +26,7 @@ pub extern "C" fn linkbox_read_settings(from: &[u8]) -> SettingsRead
 
 // Writes settings as a record into the front of the buffer.
 #[no_mangle]
-pub extern "C" fn linkbox_write_settings(
+pub extern "C" fn linkbox_raw_write_settings(
     into: &mut [u8],
     set: &Set,
     names: &Names,

@@ -38,6 +38,7 @@ use Rattle.paper_beside.specs.Reader.{readerTells}
 use Rattle.paper_beside.proofs.Reader.{reader-follows}
 use Rattle.linkbox_said.specs.Heard.{settingsSays, writeSays, lineSays, tlvSays, writeHeard, lineHeard, tlvHeard}
 use Rattle.linkbox_said.specs.Shipped.{ShippedBeside}
+use Rattle.linkbox_line.proofs.Lines.{loss-lines}
 use Rattle.linkbox_said.proofs.Heard.{write-says, line-says, tlv-says}
 
 -- the numbers of our answers are those of the paper's
@@ -120,5 +121,13 @@ shipped-beside = record {
         ap (λ (t : TlvAt). tlvSays t (now (a .0))) p ∙ tlv-says (now (a .0)) found ∙ f,
         ap (λ (t : TlvAt). record { refusal = t .refusal; drop = t .drop; value = t .value }) p ∙ tlv-is (now (a .0)) found ∙ ap tlvHeard f,
         subst (λ (t : TlvAt). t .value ≡ 0 → (t .start ≡ 0) × (t .length ≡ 0)) (sym p) (no-place found),
+      );
+  loss-line-2 = λ κs a r s p n. let e = p ∙ loss-lines .refuses-2 _ _ n in (answer-is e, buffer-is e);
+  loss-line = λ κs a r s p w o q.
+      let e = p ∙ loss-lines .is-written _ _ w in
+      let f = records-follow .ours .follows _ o tt q in (
+        ap₂ (λ (x : RecordTells) (b : List ℕ). leaving x b) (ap writeSays (answer-is e) ∙ write-says _) (buffer-is e) ∙ f,
+        answer-is e ∙ write-is _
+            ∙ ap (λ (x : RecordLeft). writeHeard (x .answer)) f,
       );
 }

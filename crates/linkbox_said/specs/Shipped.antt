@@ -10,6 +10,8 @@ use Rattle.loss_lent.specs.Lent.{Lent}
 use Rattle.loss_lent.specs.Said.{FollowsLent}
 use Rattle.state_view.specs.State.{State, shown}
 use Rattle.state_view.specs.Arguments.{behind}
+use Rattle.state_view.specs.WellFormed.{WellFormed}
+use Rattle.stored_record.specs.Writing.{tellRecord}
 use Rattle.call_conditions.specs.Conditions.{noConditions}
 use Rattle.stored_settings.specs.SettingsRecord.{refusedRead}
 use Rattle.paper_said.specs.Calls as call
@@ -20,18 +22,20 @@ use Rattle.paper_said.specs.Told.{Numbers, counted, answerNumbers, frameAsNumbe
 use Rattle.paper_beside.specs.Records as stored
 use Rattle.paper_beside.specs.Records.{RecordLeft, leaving, RecordSaid}
 use Rattle.paper_beside.specs.Reader.{ReaderTells, ReaderSaid}
-use Rattle.linkbox_state.proofs.linkbox_new_setting.Reads as new-setting
-use Rattle.linkbox_state.proofs.linkbox_clear.Reads as clear
-use Rattle.linkbox_state.proofs.linkbox_conditions.Reads as conditions
-use Rattle.linkbox_frame.proofs.linkbox_frame.Reads as frame
-use Rattle.linkbox_send.proofs.linkbox_tick.Reads as tick
-use Rattle.linkbox_send.proofs.linkbox_send_lmm.Reads as send-lmm
-use Rattle.linkbox_send.proofs.linkbox_send_dmm.Reads as send-dmm
+use Rattle.linkbox_state.proofs.linkbox_raw_new_setting.Reads as new-setting
+use Rattle.linkbox_state.proofs.linkbox_raw_clear.Reads as clear
+use Rattle.linkbox_state.proofs.linkbox_raw_conditions.Reads as conditions
+use Rattle.linkbox_frame.proofs.linkbox_raw_frame.Reads as frame
+use Rattle.linkbox_send.proofs.linkbox_raw_tick.Reads as tick
+use Rattle.linkbox_send.proofs.linkbox_raw_send_lmm.Reads as send-lmm
+use Rattle.linkbox_send.proofs.linkbox_raw_send_dmm.Reads as send-dmm
 use Rattle.linkbox_records.proofs.linkbox_read_settings.Reads as read-settings
-use Rattle.linkbox_records.proofs.linkbox_write_settings.Reads as write-settings
+use Rattle.linkbox_records.proofs.linkbox_raw_write_settings.Reads as write-settings
 use Rattle.linkbox_records.proofs.linkbox_read_line.Reads as read-line
 use Rattle.linkbox_records.proofs.linkbox_write_line.Reads as write-line
 use Rattle.linkbox_reader.proofs.linkbox_tlv.Reads as tlv
+use Rattle.linkbox_line.specs.Line.{lineOf}
+use Rattle.linkbox_line.proofs.linkbox_raw_loss_line.Reads as loss-line
 use Rattle.linkbox_said.specs.Heard.{plainSays, frameSays, tickSays, sendSays, settingsSays, writeSays, lineSays, tlvSays, writeHeard, lineHeard, tlvHeard}
 use Rattle.linkbox_said.specs.Lying.{stateIn, leftByFrame, leftByTick, leftByClear, arrivalIn}
 
@@ -73,8 +77,8 @@ pub record Shipped : Type 1 where
 
 -- ── the calls beside a box ──
 
--- the same of the lent session (`loss_lent.LentSaid`), stored records (`paper_beside.RecordSaid`) and the reader of TLVs
--- (`paper_beside.ReaderSaid`)
+-- the same of the lent session (`loss_lent.LentSaid`), stored records (`paper_beside.RecordSaid`), a box's own loss line among them, and
+-- the reader of TLVs (`paper_beside.ReaderSaid`)
 pub record ShippedBeside : Type 1 where
   -- the lent session's function, whose proof is by hand, has its clause `Lent` in place of a `Reads.Post`
   pub measure : FollowsLent Lent
@@ -94,3 +98,9 @@ pub record ShippedBeside : Type 1 where
       → (tlvSays r (now (a .0)) ≡ o)
       × (record { refusal = r .refusal; drop = r .drop; value = r .value } ≡ tlvHeard o)
       × (r .value ≡ 0 → (r .start ≡ 0) × (r .length ≡ 0))
+  -- a box's own loss line: 2 where the state is not well formed, and the buffer stays; else what is said of writing the session's line
+  pub loss-line-2 : (κs : _) (a : _) (r : _) (s : _) → loss-line.Post κs a r s → (WellFormed (stateIn a) → ⊥)
+      → (r ≡ tellRecord 2 0) × (now (behind s .0) ≡ now (behind a .0))
+  pub loss-line : (κs : _) (a : _) (r : _) (s : _) → loss-line.Post κs a r s → WellFormed (stateIn a) → (o : RecordLeft)
+      → RecordSaid (stored.write-line (lineOf (stateIn a .session)) (now (behind a .0))) o
+      → (leaving (writeSays r) (now (behind s .0)) ≡ o) × (r ≡ writeHeard (o .answer))

@@ -1,5 +1,6 @@
 // The boundary to C: the CCM of a tick, an LMM and a DMM, on the arrays that hold the state, told in the paper's numbers.
-// These are for firmware in C or Rust; linkbox.h declares them. Each calls the function of its room and tells its answer.
+// Beside them it answers how many ticks are left to the next CCM, so that firmware knows how long it may rest.
+// These are for firmware in C or Rust; linkbox_raw.h declares them. Each calls the function of its room and tells its answer.
 // Any content of the memory is a value. What a caller sees to is that the pointers are to memory of these sizes, and that what is written
 // overlaps nothing else that is handed over.
 ghost use mathlib.Core.Path.{_≡_};
@@ -11,6 +12,7 @@ ghost use Rattle.call_send_answer.specs.Told.{tickTold, lmmTold, dmmTold};
 ghost use Rattle.call_tick.specs.Tick.{tickOf};
 ghost use Rattle.call_send_lmm.specs.Lmm.{sendLmm};
 ghost use Rattle.call_send_dmm.specs.Dmm.{sendDmm};
+ghost use Rattle.linkbox_send.specs.Next.{ticksToNext};
 use base_stamp::Stamp;
 use call_send_answer::tell_dmm;
 use call_send_answer::tell_lmm;
@@ -21,12 +23,14 @@ use message_parts::parts::WrittenTold;
 use state_settings::Names;
 use state_settings::Set;
 use state_settings::Slots;
+use state_view::NEXT;
 use state_view::Run;
 use state_view::Totals;
+use state_well_formed::is_well_formed;
 
 // A tick; the last of a period writes a CCM into the front of the buffer.
 #[no_mangle]
-pub extern "C" fn linkbox_tick(
+pub extern "C" fn linkbox_raw_tick(
     set: &Set,
     names: &Names,
     ids: &Slots,
@@ -46,7 +50,7 @@ pub extern "C" fn linkbox_tick(
 
 // Writes an LMM into the front of the buffer.
 #[no_mangle]
-pub extern "C" fn linkbox_send_lmm(
+pub extern "C" fn linkbox_raw_send_lmm(
     set: &Set,
     names: &Names,
     ids: &Slots,
@@ -65,7 +69,7 @@ pub extern "C" fn linkbox_send_lmm(
 
 // Writes a DMM with the caller's stamp into the front of the buffer.
 #[no_mangle]
-pub extern "C" fn linkbox_send_dmm(
+pub extern "C" fn linkbox_raw_send_dmm(
     set: &Set,
     names: &Names,
     ids: &Slots,
@@ -82,4 +86,23 @@ pub extern "C" fn linkbox_send_dmm(
 {
     let answer = send_dmm(set, names, ids, timers, rdi, run, totals, stamp, out);
     tell_dmm(answer)
+}
+
+// How many ticks are left to the next CCM, the one that writes it counted: 1 or more; 0 where the state is not well formed.
+#[no_mangle]
+pub extern "C" fn linkbox_raw_ticks_to_next(
+    set: &Set,
+    names: &Names,
+    ids: &Slots,
+    timers: &Slots,
+    rdi: &Slots,
+    run: &Run,
+    totals: &Totals,
+) -> u32
+    ensures { λ r. ⌜ r ≡ ticksToNext (before set names ids timers rdi run totals) ⌝ }
+{
+    if !is_well_formed(set, names, ids, timers, rdi, run, totals) {
+        return 0;
+    }
+    run[NEXT]
 }

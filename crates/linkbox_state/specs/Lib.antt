@@ -1,1 +1,2 @@
 pub mod NewBox
+pub mod Abi

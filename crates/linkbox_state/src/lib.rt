@@ -1,5 +1,6 @@
 // The boundary to C: a new setting, a clear and what stands, on the arrays that hold the state, told in the paper's numbers.
-// These are for firmware in C or Rust; linkbox.h declares them. Each calls the function of its room and tells its answer.
+// Beside them it answers how many octets a box has here, for a caller to compare with its own struct.
+// These are for firmware in C or Rust; linkbox.h and linkbox_raw.h declare them. Each calls the function of its room and tells its answer.
 // Any content of the memory is a value. What a caller sees to is that the pointers are to memory of these sizes, and that what is written
 // overlaps nothing else that is handed over.
 ghost use mathlib.Core.List.{[]};
@@ -11,17 +12,23 @@ ghost use Rattle.state_places.specs.Stored.{Whole};
 ghost use Rattle.call_clear.specs.Clear.{clearOf, clearTold};
 ghost use Rattle.call_conditions.specs.Conditions.{conditionsOf};
 ghost use Rattle.linkbox_state.specs.NewBox.{newBox};
+ghost use Rattle.linkbox_state.specs.Abi.{boxOctets};
 use call_conditions::ConditionsTold;
 use call_setting::NewBox;
+use state_settings::NAMES;
 use state_settings::Names;
+use state_settings::PEERS;
+use state_settings::SET;
 use state_settings::Set;
 use state_settings::Slots;
+use state_view::RUN;
 use state_view::Run;
+use state_view::TOTALS;
 use state_view::Totals;
 
 // A new setting, from settings that are only read. The caller takes the state over, or leaves it where it is refused.
 #[no_mangle]
-pub extern "C" fn linkbox_new_setting(set: &Set, names: &Names, ids: &Slots) -> NewBox
+pub extern "C" fn linkbox_raw_new_setting(set: &Set, names: &Names, ids: &Slots) -> NewBox
     ensures { λ r. ⌜ r ≡ newBox (now (set .entry)) (now (names .entry)) (now (ids .entry)) ⌝ }
     ensures { λ _. ⌜ Shaped slots (lentSettings set names ids) ⌝ }
 {
@@ -30,7 +37,7 @@ pub extern "C" fn linkbox_new_setting(set: &Set, names: &Names, ids: &Slots) -> 
 
 // A clear of the loss session; tells 0, or refusal 2.
 #[no_mangle]
-pub extern "C" fn linkbox_clear(
+pub extern "C" fn linkbox_raw_clear(
     set: &Set,
     names: &Names,
     ids: &Slots,
@@ -50,7 +57,7 @@ pub extern "C" fn linkbox_clear(
 
 // What stands, one by one.
 #[no_mangle]
-pub extern "C" fn linkbox_conditions(
+pub extern "C" fn linkbox_raw_conditions(
     set: &Set,
     names: &Names,
     ids: &Slots,
@@ -62,4 +69,13 @@ pub extern "C" fn linkbox_conditions(
     ensures { λ r. ⌜ r ≡ conditionsOf (before set names ids timers rdi run totals) ⌝ }
 {
     call_conditions::conditions(set, names, ids, timers, rdi, run, totals)
+}
+
+// How many octets a box has: its words of four octets, its names, its totals of eight, and no padding. It is the archive's own number, so
+// a caller that was compiled against another header can see it.
+#[no_mangle]
+pub extern "C" fn linkbox_abi() -> usize
+    ensures { λ r. ⌜ r ≡ boxOctets ⌝ }
+{
+    4 * (SET + 3 * PEERS + RUN) + NAMES + 8 * TOTALS
 }

@@ -1,5 +1,6 @@
 // Prints the paper's table: each period code with its name, its ticks and its hold time.
-// Codes 0 and 8 show that others have none.
+// Codes 0 and 8 show that others have none. Any argument gets a usage line on standard error, and nothing is printed.
+use libc::STDERR_FILENO;
 use libc::STDOUT_FILENO;
 
 // The period's name in ten columns.
@@ -52,6 +53,13 @@ fn print_row(code: u32) {
 }
 
 fn main() {
+    if 1 < os::arg_count() {
+        io::write_all(
+            STDERR_FILENO,
+            b"usage: periods    (no arguments and no input; the table of periods out)\n",
+        );
+        return;
+    }
     io::write_all(STDOUT_FILENO, b"      code    period     ticks hold time\n");
     for code in 0..9 {
         print_row(code);

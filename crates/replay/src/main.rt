@@ -1,5 +1,6 @@
 // Runs recorded calls: calls on standard input, one line for each on standard output.
-// At a bad call it prints `bad call` and stops. What a call is, what it is answered and how octets and numbers are written is proved in
+// At a bad call it prints `bad call`, says on standard error which call that is and where it begins, and stops. Any argument gets a usage
+// line there, and nothing is printed. What a call is, what it is answered and how octets and numbers are written is proved in
 // the crates below; here is only which call goes where, and in which words its answer is printed. State and session are held by value: a
 // handler takes what is held, lends the state's seven arrays from there, and returns what is then held; what a new setting returns
 // becomes the held state. 267 calls `loss_lent::answer`, since no caller that lends a struct is covered by the toolchain. A part at a
@@ -36,6 +37,7 @@ use crate::steps::run_setting;
 use crate::steps::run_tick;
 use base_numbers::read_little;
 use base_text::write_word;
+use libc::STDERR_FILENO;
 use libc::STDIN_FILENO;
 use libc::STDOUT_FILENO;
 use replay_calls::MOST;
@@ -49,10 +51,11 @@ use state_view::StateArrays;
 // Room for the longest line: 1,600 octets in hex, and the answer before them.
 const LINE: usize = 4096;
 
-// What is held from call to call, and whether more may come.
+// What is held from call to call, whether more may come, and the octets after the length of the call that was run.
 struct Turn {
     held: Held,
     more: bool,
+    used: usize,
 }
 
 // Sets the buffer's octet i to (165 + i) mod 256.
@@ -129,10 +132,24 @@ fn print(line: &[u8; LINE], n: usize) -> bool {
     io::write_all(STDOUT_FILENO, &all[0..n])
 }
 
-// A bad call: the last line, and no more.
-fn bad(held: Held) -> Turn {
+// A bad call: the last line, and no more. Standard error says which it is, counted from 1, and the octet where it begins, counted from 0.
+fn bad(held: Held, number: u64, at: u64) -> Turn {
     io::write_all(STDOUT_FILENO, b"bad call\n");
-    Turn { held, more: false }
+    io::write_all(STDERR_FILENO, b"replay: call ");
+    io::print_decimal(STDERR_FILENO, number);
+    io::write_all(STDERR_FILENO, b", at octet ");
+    io::print_decimal(STDERR_FILENO, at);
+    io::write_all(STDERR_FILENO, b": bad call\n");
+    ended(held)
+}
+
+// Nothing more is run.
+fn ended(held: Held) -> Turn {
+    Turn {
+        held,
+        more: false,
+        used: 0,
+    }
 }
 
 // Runs a call with its part of the buffer, and writes its whole line. That the part fits, `is_call` has tested.
@@ -163,7 +180,11 @@ fn run_whole(held: Held, call: &[u8; MOST], n: usize, room: usize) -> Turn {
     let ran = run_part(held, call, n, &mut buffer, room, &mut line);
     let more = print(&line, ran.length);
     let after = ran.held;
-    Turn { held: after, more }
+    Turn {
+        held: after,
+        more,
+        used: n,
+    }
 }
 
 // Reads what follows a call's length; returns whether all of it came. That it fits, `call_length` has tested.
@@ -174,39 +195,53 @@ fn fetch(call: &mut [u8], length: usize) -> bool {
     io::read_full(STDIN_FILENO, &mut call[0..length]) == length
 }
 
-// Reads the next call and runs it: nothing more where the input ends before it.
-fn take_call(held: Held) -> Turn {
+// Reads the next call, of this number and at this octet, and runs it: nothing more where the input ends before it.
+fn take_call(held: Held, number: u64, at: u64) -> Turn {
     let mut head = [0u8; 2];
     let got = io::read_full(STDIN_FILENO, &mut head);
     if got == 0 {
-        return Turn { held, more: false };
+        return ended(held);
     }
     let length = call_length(&head);
     if (got < 2) | (length == 0) {
-        return bad(held);
+        return bad(held, number, at);
     }
     let mut call = [0u8; MOST];
     if !fetch(&mut call, length) {
-        return bad(held);
+        return bad(held, number, at);
     }
     if !is_call(rest(&call, 0, length)) {
-        return bad(held);
+        return bad(held, number, at);
     }
     let room = room_of(rest(&call, 0, length));
     run_whole(held, &call, length, room)
 }
 
+// The place after a call: its two octets of length, and what follows them. The sum never wraps: no input is that long.
+fn place_after(at: u64, used: usize) -> u64 {
+    std::num::wrapping_add_u64(std::num::wrapping_add_u64(at, 2), used as u64)
+}
+
 fn main() {
+    if 1 < os::arg_count() {
+        io::write_all(
+            STDERR_FILENO,
+            b"usage: replay < RUN    (no arguments; recorded calls in, a line for each out)\n",
+        );
+        return;
+    }
     let mut held = nothing();
+    let mut at: u64 = 0;
     // a loop must be shown to end, and nothing says that input does
     let mut turns = u64::MAX;
     while turns > 0 {
-        let t = take_call(held);
+        let t = take_call(held, u64::MAX - turns + 1, at);
         let next = t.held;
         held = next;
         if !t.more {
             return;
         }
+        at = place_after(at, t.used);
         turns -= 1;
     }
 }

@@ -1,8 +1,9 @@
 // Prints the link sheet: stored loss lines on standard input; a header and a line for each on standard output.
-// There may be any number of them. It prints `refused 7` at the first that is bad or cut short, and stops. What is printed for a chunk of
-// records is proved in `stored_sheet_lines`; here is only the reading and the writing. The buffer is as large as a chunk asks for, so too
-// little room is never answered. The loop ends by a count of turns, which starts at 2^64 - 1, since a loop must be shown to end and
-// nothing says that the input does.
+// There may be any number of them. It prints `refused 7` at the first that is bad or cut short, says on standard error which one that is
+// and where it begins, and stops. Any argument gets a usage line on standard error, and nothing is printed: a header alone would look like
+// an empty month. What is printed for a chunk of records is proved in `stored_sheet_lines`; here is only the reading and the writing. The
+// buffer is as large as a chunk asks for, so too little room is never answered. The loop ends by a count of turns, which starts at
+// 2^64 - 1, since a loop must be shown to end and nothing says that the input does.
 use libc::STDERR_FILENO;
 use libc::STDIN_FILENO;
 use libc::STDOUT_FILENO;
@@ -10,6 +11,9 @@ use stored_sheet::header;
 use stored_sheet_lines::LONGEST;
 use stored_sheet_lines::Lines;
 use stored_sheet_lines::write_lines;
+
+// The octets of a record.
+const RECORD: u64 = 24;
 
 // The octets read at a time: whole records, so that none lies across two chunks.
 const CHUNK: usize = 24576;
@@ -23,13 +27,54 @@ fn print(text: &[u8; ROOM], n: usize) -> bool {
     if all.len() < n {
         return false;
     }
-    io::write_all(STDOUT_FILENO, &all[0..n])
+    if io::write_all(STDOUT_FILENO, &all[0..n]) {
+        return true;
+    }
+    io::write_all(STDERR_FILENO, b"sheet: standard output takes no more\n");
+    false
 }
 
-// Reads a chunk and prints its text; tells whether more is to be printed.
-fn turn() -> bool {
+// The place after one more octet of text: a line feed ends the line of a record. The sum never wraps: no input is that long.
+fn step(place: u64, octet: u8) -> u64 {
+    if octet == b'\n' {
+        return std::num::wrapping_add_u64(place, RECORD);
+    }
+    place
+}
+
+// The place after as many records as the text has lines.
+fn place_after(text: &[u8], at: u64) -> u64 {
+    let mut place = at;
+    let mut i: usize = 0;
+    while i < text.len() {
+        place = step(place, text[i]);
+        i += 1;
+    }
+    place
+}
+
+// Says which record is bad, counted from 1, and the octet where it begins, counted from 0. The text of its chunk ends with the refusal.
+fn complain(text: &[u8; ROOM], n: usize, at: u64) {
+    let all: &[u8] = text;
+    if all.len() < n {
+        return;
+    }
+    let place = std::num::wrapping_sub_u64(place_after(&all[0..n], at), RECORD);
+    io::write_all(STDERR_FILENO, b"sheet: record ");
+    io::print_decimal(STDERR_FILENO, place / RECORD + 1);
+    io::write_all(STDERR_FILENO, b", at octet ");
+    io::print_decimal(STDERR_FILENO, place);
+    io::write_all(STDERR_FILENO, b": refused 7\n");
+}
+
+// Reads the chunk at a place and prints its text; tells whether more is to be printed. The header comes once the input has begun or ended,
+// so that what a program before this one has to say comes first.
+fn turn(at: u64) -> bool {
     let mut chunk = [0u8; CHUNK];
     let got = io::read_full(STDIN_FILENO, &mut chunk);
+    if at == 0 {
+        io::write_all(STDOUT_FILENO, &header());
+    }
     if got == 0 {
         return false;
     }
@@ -42,17 +87,27 @@ fn turn() -> bool {
         }
         Lines::All(n) => print(&text, n),
         Lines::Stopped(n) => {
-            print(&text, n);
+            if print(&text, n) {
+                complain(&text, n, at);
+            }
             false
         }
     }
 }
 
 fn main() {
-    io::write_all(STDOUT_FILENO, &header());
+    if 1 < os::arg_count() {
+        io::write_all(
+            STDERR_FILENO,
+            b"usage: sheet < RECORDS    (no arguments; stored loss lines in, their sheet out)\n",
+        );
+        return;
+    }
+    let mut at: u64 = 0;
     // a loop must be shown to end, and nothing says that input does
     let mut turns = u64::MAX;
-    while turns > 0 && turn() {
+    while turns > 0 && turn(at) {
+        at = std::num::wrapping_add_u64(at, CHUNK as u64);
         turns -= 1;
     }
 }

@@ -1,8 +1,0 @@
--- `linkbox_state::linkbox_conditions` keeps its promise: each part is found by search.
-use borrow.Author.Needs.{needs}
-use Rattle.linkbox_state.proofs.linkbox_conditions.Statement.{statement}
-use Rattle.linkbox_state.proofs.linkbox_conditions.Tie as tie
-
-pub linkbox-conditions-spec : {M : Type 1} → statement M
-linkbox-conditions-spec = tie.close
-    (tie.spec (λ c. search needs) (λ c. search needs))

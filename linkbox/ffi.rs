@@ -205,7 +205,7 @@ unsafe extern "C" {
         totals: *const Totals, out: *mut u8, room: usize,
     ) -> Written;
 
-    /// A clear of the loss session; tells 0, or refusal 2. Writes run and totals.
+    /// A clear of the loss session; returns 0, or refusal 2. Writes run and totals.
     pub fn linkbox_raw_clear(
         set: *const Set, names: *const Names, ids: *const Slots, timers: *const Slots, rdi: *const Slots, run: *mut Run,
         totals: *mut Totals,

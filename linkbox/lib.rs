@@ -102,7 +102,7 @@ pub enum Dropped {
     Offset,
     /// D5: the fixed part, a TLV or the End TLV missing.
     CutOff,
-    /// D6: a destination that is not ours.
+    /// D6: the frame is not for us.
     Destination,
     /// D7: a field's value.
     Value,
@@ -251,6 +251,9 @@ impl Settings {
 
     /// Of a stored record (kind 1, 85 octets) at the front of `from`; the rest isn't looked at. Refusal 7.
     pub fn read(from: &[u8]) -> Result<Settings, Refusal> {
+        if !fits() {
+            return Err(Refusal::Archive);
+        }
         let read = unsafe { ffi::linkbox_read_settings(from.as_ptr(), from.len()) };
         Refusal::of(read.refusal)?;
         Ok(Settings::of(read.settings))
@@ -258,6 +261,9 @@ impl Settings {
 
     /// Writes them as a record into the front of a buffer, and gives the record. Refusals 4 and 3.
     pub fn write<'a>(&self, into: &'a mut [u8]) -> Result<&'a [u8], Refusal> {
+        if !fits() {
+            return Err(Refusal::Archive);
+        }
         let lying = self.lying();
         let told = unsafe { ffi::linkbox_raw_write_settings(into.as_mut_ptr(), into.len(), &lying.set, &lying.names, &lying.ids) };
         written(told, into)
@@ -294,7 +300,7 @@ impl Conditions {
     }
 }
 
-/// Whether the archive's box has as many octets as this library's. Where it has not, no box can be made.
+/// Whether the archive's box has as many octets as this library's. Where it has not, no box is made and no settings are read or written.
 pub fn fits() -> bool {
     unsafe { ffi::linkbox_abi() == size_of::<Arrays>() }
 }
@@ -323,9 +329,12 @@ impl LinkBox {
         Ok(())
     }
 
-    /// A box with a state that was kept elsewhere. Any content is a value: what is not well formed every call refuses.
-    pub fn from_arrays(arrays: Arrays) -> LinkBox {
-        LinkBox { arrays }
+    /// A box with a state that was kept elsewhere. Any content is a value: what is not well formed the box's calls refuse.
+    pub fn from_arrays(arrays: Arrays) -> Result<LinkBox, Refusal> {
+        if !fits() {
+            return Err(Refusal::Archive);
+        }
+        Ok(LinkBox { arrays })
     }
 
     /// The state, to be kept elsewhere.

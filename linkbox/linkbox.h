@@ -1,5 +1,5 @@
 /* linkbox.h: a link box for C11 and C++11, over the static library liblinkbox.a, which needs
- * nothing of the host. linkbox/README.md takes you from nothing to a ticking box.
+ * nothing of the host. README.md in share/linkbox takes you from nothing to a ticking box.
  *
  * A box is one struct linkbox, and every call on it takes it whole. The library keeps no memory of
  * its own, allocates nothing and never ends the program. Every content of a box is a value: what
@@ -10,8 +10,8 @@
  *      nothing else writes it during the call.
  *   2. What a call writes overlaps nothing else that is passed in. Each call says what it writes.
  *   3. Two calls at a time need two boxes.
- * Calls on a box take NULL for no octets, whatever length is beside it. Calls that take no box take
- * no NULL: pass a pointer to anything, and 0. */
+ * The inline calls below take NULL for no octets, whatever length is beside it. The archive's own
+ * functions take no NULL: pass a pointer to anything, and 0. */
 #ifndef LINKBOX_H
 #define LINKBOX_H
 
@@ -19,7 +19,7 @@
 #include <stdint.h>
 
 /* The version of this header. The requests of the firm will add calls, refusals and words of the
- * state; linkbox_fits says whether the archive has the same struct. */
+ * state; linkbox_fits says whether the archive's box is as long. */
 #define LINKBOX_VERSION "1.0.0"
 
 #ifdef __cplusplus
@@ -49,9 +49,9 @@ enum {
 };
 
 /* Drops, D1 to D8, 0 for none: an OAM frame shorter than 18; its level; an opcode that is not
- * handled; a TLV offset below the opcode's; the fixed part, a TLV or the End TLV missing; a
- * destination that is not ours; a field's value; a delay that a signed 64-bit number cannot hold,
- * which never comes. */
+ * handled; a TLV offset below the opcode's; the fixed part, a TLV or the End TLV missing; a frame
+ * that is not for us, by its addresses; a field's value; a delay that a signed 64-bit number
+ * cannot hold, which never comes. */
 enum {
     LINKBOX_DROP_SHORT = 1,
     LINKBOX_DROP_LEVEL = 2,
@@ -140,7 +140,8 @@ struct linkbox_settings {
 };
 
 /* What a box knows: 248 octets without padding, the settings first. All zero is a box that was
- * never set: it is not well formed, and every call but a new setting refuses it with 2. */
+ * never set: it is not well formed. A new setting takes no old state; every other call that has a
+ * refusal refuses it with 2, and linkbox_ticks_to_next answers 0. */
 struct linkbox {
     uint32_t set[LINKBOX_LEN_SET];
     uint8_t names[LINKBOX_LEN_NAMES];
@@ -274,7 +275,7 @@ struct linkbox_tlv_answer linkbox_tlv(const uint8_t *frame, size_t length, uint8
 
 /* ── calls on a box; each makes one call of the archive (linkbox_raw.h) ── */
 
-/* Whether the archive's box is that of this header: 1, or 0. */
+/* Whether the archive's box has as many octets as this header's: 1, or 0. */
 static inline int linkbox_fits(void) {
     return linkbox_abi() == sizeof(struct linkbox);
 }

@@ -77,7 +77,7 @@ fn main() -> Result<(), Refusal> {
     let refused = quay.set(&Settings { level: 8, ..quay.settings() });
     println!("a setting of level 8: {refused:?}; the box runs on as it was: {}", quay == before);
     println!("a frame of 13 octets: {:?}", quay.frame(Side::Active, &service[..13], NONE, NONE, &mut reply));
-    let never = LinkBox::from_arrays(zeros());
+    let never = LinkBox::from_arrays(zeros())?;
     println!("a box that was never set: {:?}, {:?}, {}", never.conditions(), never.loss_line(&mut out), never.ticks_to_next());
     println!("in words: {}; {}; {}; {}", Refusal::NotWellFormed, Dropped::Level, Refusal::Other(9), Dropped::Other(10));
     Ok(())

@@ -61,6 +61,13 @@ void *memcpy(void *to, const void *from, size_t octets) {
     return to;
 }
 
+void *memmove(void *to, const void *from, size_t octets) {
+    volatile uint8_t *at = to;
+    if (to < from) return memcpy(to, from, octets);
+    while (octets-- > 0) at[octets] = ((const uint8_t *)from)[octets];
+    return to;
+}
+
 void *memset(void *to, int octet, size_t octets) {
     volatile uint8_t *at = to;
     for (size_t i = 0; i < octets; i++) at[i] = (uint8_t)octet;

@@ -14,11 +14,12 @@ AllGood step Good s (c ∷ cs) = Good s c × AllGood step Good (step s c) cs
 
 -- a field that each call moves as its event says is moved so over any run
 pub record Runs : Type 1 where
-  -- a run of no call leaves all as it was, one of one call does that call, and two runs, one behind the other, are one run
+  -- a run of no call leaves all as it was, one of one call does that call, and two runs, one after the other, are one run
   pub none : {S C : Type 0} (step : S → C → S) (s : S) → after step s [] ≡ s
   pub one : {S C : Type 0} (step : S → C → S) (s : S) (c : C) → after step s (c ∷ []) ≡ step s c
   pub joins : {S C : Type 0} (step : S → C → S) (s : S) (cs ds : List C) → after step s (cs ++ ds) ≡ after step (after step s cs) ds
-  -- a field that each good call moves as its event says is, after a run, moved as the run's events say; and what each good call keeps, the run keeps
+  -- a field that each good call moves as its event says is, after a run, moved as the run's events say; and what each good call keeps, the
+  -- run keeps
   pub watched : {S C E F : Type 0} (step : S → C → S) (move : F → E → F) (field : S → F) (event : C → E) (Holds : S → Type 0) (Good : S → C → Type 0)
       → ((s : S) (c : C) → Holds s → Good s c → field (step s c) ≡ move (field s) (event c))
       → ((s : S) (c : C) → Holds s → Good s c → Holds (step s c))

@@ -1,6 +1,6 @@
-// Whether a word stands among others.
-// is_absent stands in every call. It is out at the first word that is x: over few words, which a caller's loop counts, its turns are laid
-// out one behind the other, a comparison and a jump each.
+// Whether a word is among others.
+// is_absent is part of every call. It returns at the first word that is x: over few words, which a caller's loop counts, its turns are laid
+// out one after the other, a comparison and a jump each.
 ghost use mathlib.Core.Path.{_≡_};
 ghost use Rattle.base_laws.specs.Lists.{absent};
 

@@ -39,7 +39,7 @@ pairsValue (c ∷ d ∷ text) = (digitValue c * 16 + digitValue d) ∷ pairsValu
 pub record Hexes : Type 0 where
   -- two digits an octet
   pub long : (xs : List ℕ) → length (hexPairs xs) ≡ 2 * length xs
-  -- the octets come back from their digits, and so the text tells which they are
+  -- the octets come back from their digits, and so the text determines them
   pub back : (xs : List ℕ) → Octets xs → pairsValue (hexPairs xs) ≡ xs
   -- `-` for none, and what some are
   pub none : hexText [] ≡ 45 ∷ []

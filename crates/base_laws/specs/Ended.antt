@@ -1,4 +1,4 @@
--- How a call ends: what it answers, and what then lies in the memory that it was lent. One record for every call. Definitions only.
+-- How a call ends: what it answers, and what is then in the memory that it was lent. One record for every call. Definitions only.
 use Prim.Native.Nat.{ℕ}
 use mathlib.Core.List.{List}
 
@@ -18,6 +18,6 @@ Wrote A = Ended Unit A
 abbrev pub wrote : {A : Type 0} → A → List ℕ → Wrote A
 wrote answer buffer = ended answer tt buffer
 
--- the same end, its answer told in other words: in the paper's numbers
+-- the same end, its answer in other words: in the paper's numbers
 abbrev pub toldBy : {S A B : Type 0} → (A → B) → Ended S A → Ended S B
 toldBy tell e = ended (tell (e .answer)) (e .state) (e .buffer)

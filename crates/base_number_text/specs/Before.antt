@@ -20,8 +20,8 @@ longestNumber = 20
 abbrev pub roomBefore : ℕ → List ℕ → Bool
 roomBefore end s = leb longestNumber end && leb end (length s)
 
--- the buffer after it: the digits of the size end before the place, and '-' stands in front of them whether or not the number is below 0.
--- Whether it belongs to the text is told by where the text begins
+-- the buffer after it: the digits of the size end before the place, and '-' is in front of them whether or not the number is below 0.
+-- Where the text begins says whether it belongs to the text
 unfoldable pub putBefore : ℕ → ℤ → List ℕ → List ℕ
 putBefore end z s =
     cond (roomBefore end s) (laid (end - length (digitsOf (natAbs z)) - 1) (45 ∷ digitsOf (natAbs z)) s) s
@@ -32,11 +32,11 @@ beginning end z s = cond (roomBefore end s) (end - length (decimal z)) end
 
 -- what is said of a number that is put so
 pub record PutsBefore : Type 0 where
-  -- where there is room, the text stands from where it begins up to the place, and what stands from the place on is as it was
+  -- where there is room, the text is from where it begins up to the place, and what is from the place on is as it was
   pub text : (end : ℕ) (z : ℤ) (s : List ℕ) → SFits w64 z → longestNumber ≤ end → end ≤ length s
       → drop (beginning end z s) (putBefore end z s) ≡ decimal z ++ drop end s
   pub begins : (end : ℕ) (z : ℤ) (s : List ℕ) → longestNumber ≤ end → end ≤ length s → beginning end z s ≡ end - length (decimal z)
-  -- where there is none, nothing is touched, and the place comes back
+  -- where there is none, nothing changes, and the place itself is returned
   pub untouched : (end : ℕ) (z : ℤ) (s : List ℕ) → (end < longestNumber) ⊎ (length s < end)
       → (putBefore end z s ≡ s) × (beginning end z s ≡ end)
   -- the buffer is as long as it was

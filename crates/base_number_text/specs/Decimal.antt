@@ -12,7 +12,7 @@ use mir.Val.{SFits}
 abbrev pub digit : ℕ → ℕ
 digit d = 48 + d
 
--- the digits of n, the highest first: the last one behind those of n / 10, and none for 0; n is divided at most `most` times
+-- the digits of n, the highest first: the last one after those of n / 10, and none for 0; n is divided at most `most` times
 unfoldable pub leading : ℕ → ℕ → List ℕ
 leading zero n = []
 leading (suc most) zero = []
@@ -44,7 +44,7 @@ pub record IsDecimal (text : List ℕ) (n : ℕ) : Type 0 where
   pub front : getD text 0 48 ≡ 48 → length text ≡ 1
   pub value : spelled 0 text ≡ n
 
--- and with one: '-' stands in front of the size of a number below 0, and nothing in front of any other
+-- and with one: '-' is in front of the size of a number below 0, and nothing in front of any other
 pub data IsSigned : List ℕ → ℤ → Type 0 where
   plain : {text : List ℕ} {n : ℕ} → IsDecimal text n → IsSigned text (pos n)
   minus : {text : List ℕ} {n : ℕ} → IsDecimal text (suc n) → IsSigned (45 ∷ text) (negsuc n)
@@ -57,7 +57,7 @@ pub record Decimals : Type 0 where
   pub only : (text : List ℕ) (n : ℕ) → IsDecimal text n → text ≡ digitsOf n
   pub signed-is : (z : ℤ) → IsSigned (decimal z) z
   pub signed-only : (text : List ℕ) (z : ℤ) → IsSigned text z → text ≡ decimal z
-  -- the text tells the number
+  -- the text determines the number
   pub tells : (x y : ℤ) → decimal x ≡ decimal y → x ≡ y
   -- a number below 10 ^ k has at most k digits, and one more octet with the sign; one of 64 bits has at most 20, and none has no octet
   pub most : (n k : ℕ) → n < 10 ^ k → 1 ≤ k → length (digitsOf n) ≤ k

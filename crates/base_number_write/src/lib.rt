@@ -73,7 +73,7 @@ fn sign_of(value: i64) -> usize
 
 // Writes the text of a number so that it ends before a place, and answers where it begins. The octet in front of the digits becomes '-'
 // whether or not the number is below 0: no branch is taken on a sign that nobody can foresee. Where the longest text would not fit, nothing
-// is touched and `end` comes back.
+// is changed and `end` is returned.
 pub fn put_before(into: &mut [u8], end: usize, value: i64) -> usize
     ensures { λ r. ⌜ (now (into .exit) ≡ putBefore end value (now (into .entry)))
         × (r ≡ beginning end value (now (into .entry))) ⌝ }
@@ -87,7 +87,7 @@ pub fn put_before(into: &mut [u8], end: usize, value: i64) -> usize
     digits_before(into, end, size_of(value)) - sign_of(value)
 }
 
-// Writes the text of a number at a place, and answers the place behind it; where it does not fit, nothing is touched and `at` comes back.
+// Writes the text of a number at a place, and returns the place behind it; where it does not fit, nothing is changed and `at` is returned.
 pub fn write_decimal(into: &mut [u8], at: usize, value: i64) -> usize
     ensures { λ r. ⌜ (now (into .exit) ≡ putAt at (decimal value) (now (into .entry)))
         × (r ≡ behind at (decimal value) (now (into .entry))) ⌝ }

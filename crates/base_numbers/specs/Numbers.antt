@@ -57,5 +57,5 @@ pub record Numbers : Type 0 where
   pub put-back : (o : Order) (n at v : ℕ) (s : List ℕ) → at + n ≤ length s → v < 256 ^ n → number o (part at n (laid at (inOctets o n v) s)) ≡ v
   pub put-others : (o : Order) (n at v : ℕ) (s : List ℕ) (i : ℕ) → at + n ≤ length s → (i < at) ⊎ (at + n ≤ i)
       → getD (laid at (inOctets o n v) s) i 0 ≡ getD s i 0
-  -- and what is read at a place writes back as the octets that stand there
+  -- and what is read at a place writes back as the octets that are there
   pub read-again : (o : Order) (n at : ℕ) (s : List ℕ) → at + n ≤ length s → Octets s → inOctets o n (number o (part at n s)) ≡ part at n s

@@ -1,5 +1,5 @@
--- The seven period codes. The paper, "Numbers": a tick is 1/600 s; codes 1 to 7 and their ticks; 0 is invalid; the hold time is 3.5 periods.
--- Definitions and statements only.
+-- The seven period codes. The paper, "Numbers": a tick is 1/600 s; codes 1 to 7 and their ticks; 0 is invalid; the hold time is 3.5
+-- periods. Definitions and statements only.
 use Prim.Native.Nat.{ℕ, _*_, _≤_}
 use mathlib.Core.Path.{_≡_}
 use mathlib.Core.List.{List, [], _∷_}

@@ -1,6 +1,6 @@
 // Runs of words: held to a bound, and searched.
-// Two tests stand in every call. all_within goes to the end without a way out: a loop of a fixed length becomes a few vector instructions.
-// zero_from goes down from the last word and joins words, not tests: its turns are then laid out one behind the other.
+// Two tests are part of every call. all_within goes to the end without a way out: a loop of a fixed length becomes a few vector instructions.
+// zero_from goes down from the last word and joins words, not tests: its turns are then laid out one after the other.
 ghost use mathlib.Core.Path.{_≡_};
 ghost use lib.ListN.{drop};
 ghost use Rattle.base_laws.specs.Lists.{every, placeOf};

@@ -47,5 +47,5 @@ pub record Clears : Type 0 where
   pub forgets : (s : State) → WellFormed s → clearOf s .state .session ≡ clearedSession
   -- whatever the answer, nothing but the session changes
   pub others : (s : State) → clearOf s .state ≡ withSession (clearOf s .state .session) s
-  -- an answer is told as the paper numbers it
+  -- an answer has the number that the paper gives it
   pub agree : (s : State) → clearTold (clearOf s .answer) ≡ clearNumbers s

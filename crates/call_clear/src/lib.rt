@@ -1,4 +1,4 @@
-// A clear: the loss session starts anew, and nothing else of the state changes.
+// A clear: the loss session starts again, and nothing else of the state changes.
 // Refusal 2 where the state is not well formed, and then nothing changes. No buffer is passed in. That nothing else ever changes,
 // whatever the answer, is `call_clear.clears`.
 ghost use mathlib.Core.List.{[]};
@@ -43,7 +43,7 @@ pub fn clear(
         × (clearTold r ≡ clearNumbers (before set names ids timers rdi run totals)) ⌝ }
     ensures { λ _. ⌜ Whole (now (run .exit)) (now (totals .exit)) ⌝ }
 {
-    // a view of an array tells its length, and costs nothing
+    // a view of an array has its length, and costs nothing
     let _words: &[u32] = run;
     let _both: &[i64] = totals;
     if !is_well_formed(set, names, ids, timers, rdi, run, totals) {

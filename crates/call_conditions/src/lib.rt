@@ -1,4 +1,4 @@
-// Which conditions stand, each by itself, for whoever asks.
+// Which conditions are active, each by itself, for whoever asks.
 // Refusal 2 where the state is not well formed, and then every value beside it is 0. The call only reads the state, and no buffer is
 // passed in. The answer is a struct with the refusal's number in it, and no enum, since an enum that holds an array is not covered by the
 // toolchain: so there is no `tell`.
@@ -22,7 +22,7 @@ use state_view::UNEXPECTED_MEP;
 use state_view::UNEXPECTED_PERIOD;
 use state_well_formed::is_well_formed;
 
-// Each condition, 1 while it stands and else 0; and the RDI that each peer last sent.
+// Each condition, 1 while it is active and else 0; and the RDI that each peer last sent.
 #[repr(C)]
 pub struct ConditionFlags {
     pub lost: Slots,
@@ -46,7 +46,7 @@ pub struct ConditionsTold {
 fn mark_lost(lost: &mut Slots, timers: &Slots, count: u32)
     ensures { λ _. ⌜ now (lost .exit) ≡ table (lostAt count (now (timers .entry))) slots ⌝ }
 {
-    // a view of the array tells its length, and costs nothing
+    // a view of the array has its length, and costs nothing
     let _all: &[u32] = lost;
     let used = count as usize;
     let mut i: usize = 0;

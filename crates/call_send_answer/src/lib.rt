@@ -1,5 +1,5 @@
 // What the three calls that send are answered, a tick, send LMM and send DMM, and the same in the paper's numbers.
-// Apart from the calls, so that a number that is told wrong is tried in a crate of three matches. One struct serves all three: the
+// Apart from the calls, so that a wrong number is tried in a crate of three matches. One struct serves all three: the
 // refusal and the length of what was written.
 ghost use mathlib.Core.Path.{_≡_};
 ghost use Rattle.call_send_answer.specs.Told.{tickTold, lmmTold, dmmTold};
@@ -13,7 +13,7 @@ pub enum TickAnswer {
     NoRoom,
     // The tick has passed, and nothing is to be sent.
     Quiet,
-    // It has passed, and a CCM stands in so many of the buffer's first octets.
+    // It has passed, and a CCM is in so many of the buffer's first octets.
     Sent(usize),
 }
 
@@ -23,7 +23,7 @@ pub enum LmmAnswer {
     NotWellFormed,
     // Refusal 3: the buffer is shorter than the message.
     NoRoom,
-    // The message stands in so many of the buffer's first octets.
+    // The message is in so many of the buffer's first octets.
     Sent(usize),
 }
 
@@ -35,7 +35,7 @@ pub enum DmmAnswer {
     BadStamp,
     // Refusal 3: the buffer is shorter than the message.
     NoRoom,
-    // The message stands in so many of the buffer's first octets.
+    // The message is in so many of the buffer's first octets.
     Sent(usize),
 }
 

@@ -1,4 +1,5 @@
--- A DMM, when asked. The paper, "A tick": 51 octets, first stamp the caller's, to the loss peer. Refusals 2, 6 and 3, in this order. Definitions and the statement only.
+-- A DMM, when asked. The paper, "A tick": 51 octets, first stamp the caller's, to the loss peer. Refusals 2, 6 and 3, in this order.
+-- Definitions and the statement only.
 use Prim.Native.Nat.{ℕ, _≤_, _<_}
 use mathlib.Core.Path.{_≡_}
 use mathlib.Core.List.{List, [], _∷_}
@@ -68,5 +69,5 @@ pub record SendsDmm : Type 0 where
   pub keeps : (s : State) (stamp : Stamp) (buffer : List ℕ) → sendDmm s stamp buffer .state ≡ s
   -- it is 51 octets long, an address being 6
   pub long : (s : State) (stamp : Stamp) → length (s .settings .losspeer) ≡ 6 → length (s .settings .own) ≡ 6 → length (dmmOf s stamp) ≡ 51
-  -- an answer is told as the paper numbers it
+  -- an answer has the number that the paper gives it
   pub agree : (s : State) (stamp : Stamp) (buffer : List ℕ) → dmmTold (sendDmm s stamp buffer .answer) ≡ dmmNumbers s stamp buffer

@@ -1,4 +1,5 @@
--- An LMM, when asked. The paper, "A tick": 31 octets, TxFCf our sent count, to the loss peer. Refusals 2 and 3. Definitions and the statement only.
+-- An LMM, when asked. The paper, "A tick": 31 octets, TxFCf our sent count, to the loss peer. Refusals 2 and 3. Definitions and the
+-- statement only.
 use Prim.Native.Nat.{ℕ, _≤_, _<_}
 use mathlib.Core.Path.{_≡_}
 use mathlib.Core.List.{List, [], _∷_}
@@ -58,5 +59,5 @@ pub record SendsLmm : Type 0 where
   pub keeps : (s : State) (buffer : List ℕ) → sendLmm s buffer .state ≡ s
   -- it is 31 octets long, an address being 6
   pub long : (s : State) → length (s .settings .losspeer) ≡ 6 → length (s .settings .own) ≡ 6 → length (lmmOf s) ≡ 31
-  -- an answer is told as the paper numbers it
+  -- an answer has the number that the paper gives it
   pub agree : (s : State) (buffer : List ℕ) → lmmTold (sendLmm s buffer .answer) ≡ lmmNumbers s buffer

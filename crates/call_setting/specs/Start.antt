@@ -56,14 +56,14 @@ zeroArrays = record {
 abbrev pub zeroState : State
 zeroState = shown zeroArrays
 
--- the state that a new setting hands out: that which it starts with, or, beside refusal 4, zeros
+-- the state that a new setting returns: that which it starts with, or, beside refusal 4, zeros
 abbrev pub afterSetting : Settings → State
 afterSetting s = cond (valid s) (startOf s) zeroState
 
 abbrev pub answerOf : Settings → SettingAnswer
 answerOf s = cond (valid s) Set Invalid
 
--- ── as it lies in the arrays that are handed out, each of them whole ──
+-- ── in the arrays that are returned, each of them whole ──
 
 -- the settings as they were lent, the peers' timers at the hold time, a period to run, and zeros
 abbrev pub startArrays : List ℕ → List ℕ → List ℕ → StateArrays
@@ -83,7 +83,7 @@ startedWith words names ids = record { answer = Set; state = startArrays words n
 unfoldable pub noState : Started
 noState = record { answer = Invalid; state = zeroArrays }
 
--- from settings as they lie: words, names, IDs
+-- from settings in their arrays: words, names, IDs
 unfoldable pub settingOf : List ℕ → List ℕ → List ℕ → Started
 settingOf words names ids = cond (valid (settingsOf words names ids)) (startedWith words names ids) noState
 
@@ -92,7 +92,7 @@ settingOf words names ids = cond (valid (settingsOf words names ids)) (startedWi
 abbrev pub settingNumbers : Settings → SettingTold
 settingNumbers s = cond (valid s) (record { refusal = 0 }) (record { refusal = 4 })
 
--- what a new setting hands out, its answer by its number, and the answer that a number tells
+-- what a new setting returns, its answer by its number, and the answer that a number means
 abbrev pub boxOf : Started → NewBox
 boxOf s = record { refusal = settingTold (s .answer) .refusal; state = s .state }
 
@@ -106,6 +106,6 @@ pub record Starts : Type 0 where
   pub well : (t : Settings) → Valid t → WellFormed (startOf t)
   pub zero-not : WellFormed zeroState → ⊥
   pub agree : (t : Settings) → settingTold (answerOf t) ≡ settingNumbers t
-  -- what lies in the arrays is the answer and the state of the definitions above
+  -- what is in the arrays is the answer and the state of the definitions above
   pub answers : (words names ids : List ℕ) → settingOf words names ids .answer ≡ answerOf (settingsOf words names ids)
   pub hands-out : (words names ids : List ℕ) → shown (settingOf words names ids .state) ≡ afterSetting (settingsOf words names ids)

@@ -1,9 +1,9 @@
 // A new setting: the state that it starts with, or the all-zero state where it is not valid; the answer, and its number.
-// Settings are lent for reading and the state is returned by value, so that a refusal leaves all that was passed in: a box that runs is
-// not touched by a setting that breaks a rule. Code that writes into the settings is not compiled (`tests/gate lent_written`), so no edit
-// can try that; what is tried is the relation, in `paper_said` and `paper_order`. Beside refusal 4 the state that is returned is all
-// zeros; else it has the settings as they were lent, and all the rest starts again. The contract also says that the settings have the
-// lengths of their arrays.
+// Settings are lent for reading and the state is returned by value, so that a refusal leaves all that was passed in: a box that runs is not
+// changed by a setting that breaks a rule. Code that writes into the settings is not compiled (`tests/gate lent_written`), so no edit can
+// try that; what is tried is the relation, in `paper_said` and `paper_order`. Beside refusal 4 the state that is returned is all zeros;
+// else it has the settings as they were lent, and all the rest starts again. The contract also says that the settings have the lengths of
+// their arrays.
 ghost use mathlib.Core.Path.{_≡_};
 ghost use Rattle.base_laws.specs.Lists.{onFirst};
 ghost use Rattle.state_settings.specs.Settings.{slots, lentSettings, Shaped};
@@ -48,7 +48,7 @@ pub fn tell(answer: SettingAnswer) -> SettingTold
     }
 }
 
-// What a new setting is answered, and the state that it hands out.
+// What a new setting is answered, and the state that it returns.
 pub struct Started {
     pub answer: SettingAnswer,
     pub state: StateArrays,
@@ -118,13 +118,13 @@ fn begin(set: &Set, names: &Names, ids: &Slots) -> NewBox
     }
 }
 
-// Takes settings as they lie: the state that they start with, or all zeros where they are not valid, told in the paper's numbers. It takes
-// no old state. C is handed what is made here as it lies: packed anew, it would be laid on the stack twice more.
+// Takes settings from their arrays: the state that they start with, or all zeros where they are not valid, answered in the paper's numbers.
+// It takes no old state. C is given what is made here as it is: packed again, it would be copied to the stack twice more.
 pub fn new_box(set: &Set, names: &Names, ids: &Slots) -> NewBox
     ensures { λ r. ⌜ r ≡ boxOf (settingOf (now (set .entry)) (now (names .entry)) (now (ids .entry))) ⌝ }
     ensures { λ _. ⌜ Shaped slots (lentSettings set names ids) ⌝ }
 {
-    // a view of an array tells its length, and costs nothing
+    // a view of an array has its length, and costs nothing
     let _names: &[u8] = names;
     let _ids: &[u32] = ids;
     if !is_valid(set, names, ids) {
@@ -133,7 +133,7 @@ pub fn new_box(set: &Set, names: &Names, ids: &Slots) -> NewBox
     begin(set, names, ids)
 }
 
-// The answer that a number tells.
+// The answer that a number means.
 fn answer_of(refusal: u32) -> SettingAnswer
     ensures { λ r. ⌜ r ≡ answerTold refusal ⌝ }
 {

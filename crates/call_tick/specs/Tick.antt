@@ -81,11 +81,11 @@ pub record Ticks : Type 0 where
   pub writes : (s : State) (buffer : List ℕ) → tickOf s buffer .answer ≡ Sent ccmLength
       → tickOf s buffer .buffer ≡ laid 0 (ccmOf (tickedOf s)) buffer
   pub writes-none : (s : State) (buffer : List ℕ) → (tickOf s buffer .answer ≡ Sent ccmLength → ⊥) → tickOf s buffer .buffer ≡ buffer
-  -- no tick touches settings, peers' RDI, service counts and session
+  -- no tick changes settings, peers' RDI, service counts or session
   pub settings-stay : (s : State) (buffer : List ℕ) → tickOf s buffer .state .settings ≡ s .settings
   pub rdi-stays : (s : State) (buffer : List ℕ) → tickOf s buffer .state .rdi ≡ s .rdi
   pub sent-stays : (s : State) (buffer : List ℕ) → tickOf s buffer .state .sent ≡ s .sent
   pub received-stays : (s : State) (buffer : List ℕ) → tickOf s buffer .state .received ≡ s .received
   pub session-stays : (s : State) (buffer : List ℕ) → tickOf s buffer .state .session ≡ s .session
-  -- an answer is told as the paper numbers it
+  -- an answer has the number that the paper gives it
   pub agree : (s : State) (buffer : List ℕ) → tickTold (tickOf s buffer .answer) ≡ tickNumbers s buffer

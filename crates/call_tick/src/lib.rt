@@ -38,7 +38,7 @@ pub fn tick(
         × (tickTold r ≡ tickNumbers (before set names ids timers rdi run totals) (now (out .entry))) ⌝ }
     ensures { λ _. ⌜ Whole (now (run .exit)) (now (totals .entry)) ⌝ }
 {
-    // a view of an array tells its length, and costs nothing
+    // a view of an array has its length, and costs nothing
     let _words: &[u32] = run;
     let _both: &[i64] = totals;
     if !is_well_formed(set, names, ids, timers, rdi, run, totals) {

@@ -1,5 +1,5 @@
--- The CCM that a state sends. The paper, "A tick": 89 octets, to our level's multicast address, sequence, counts and reserved zero; RDI where
--- any condition stands other than a peer's RDI. Definitions and the statement only.
+-- The CCM that a state sends. The paper, "A tick": 89 octets, to our level's multicast address, sequence, counts and reserved zero; RDI
+-- where any condition stands other than a peer's RDI. Definitions and the statement only.
 use Prim.Native.Nat.{ℕ}
 use mathlib.Core.Path.{_≡_}
 use mathlib.Core.List.{List}
@@ -10,7 +10,7 @@ use Rattle.state_standing.specs.Flag.{flag, Shows}
 use Rattle.message_ccm.specs.declared.CcmValues.{CcmValues}
 use Rattle.message_ccm.specs.Continuity.{ccmOctets}
 
--- what a state says of itself: any condition that stands sets RDI; sequence and counts are zero
+-- what a state says of itself: any condition that is active sets RDI; sequence and counts are zero
 abbrev pub saidOf : State → CcmValues
 saidOf s = record {
   level = s .settings .level;
@@ -28,7 +28,7 @@ ccmOf s = ccmOctets (s .settings .own) (s .settings .meg) (saidOf s)
 
 -- a CCM's RDI is 1 exactly where a condition is active; it has 89 octets
 pub record CcmSays : Type 0 where
-  -- its RDI is 1 exactly where a condition stands
+  -- its RDI is 1 exactly where a condition is active
   pub rdi : (s : State) → Shows (saidOf s .rdi) (Stands s)
   -- it is 89 octets long, an address being 6 and a MEG ID 48
   pub long : (s : State) → length (s .settings .own) ≡ 6 → length (s .settings .meg) ≡ 48 → length (ccmOf s) ≡ 89

@@ -1,4 +1,4 @@
-// The CCM that a state sends: our own address, MEG ID and MEP ID, and RDI where any condition stands.
+// The CCM that a state sends: our own address, MEG ID and MEP ID, and RDI where any condition is active.
 // Refusal 3 where the buffer is shorter than 89 octets, and then nothing changes. Whether a CCM is due, and whether the state is well
 // formed, `call_tick` tests before. The octets have their own short proof here, which an edit of the tick's order does not repeat.
 ghost use mathlib.Core.Path.{_≡_};
@@ -48,7 +48,7 @@ pub fn write_own_ccm(
         rxfcb: 0,
         txfcb: 0,
     };
-    // a copy, which no caller's buffer can lie over: the MEG ID is then written by vector instructions and not octet by octet
+    // a copy, which no caller's buffer can overlap: the MEG ID is then written by vector instructions and not octet by octet
     let copied = *names;
     write_ccm(out, &copied, ccm)
 }

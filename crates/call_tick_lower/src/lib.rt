@@ -1,4 +1,4 @@
-// What a tick lowers: every timer one tick later, where it lies.
+// What a tick lowers: every timer one tick later, in its place.
 // It refuses nothing: whether a tick may pass is tested before. The two loops over timers have their own short proofs here.
 ghost use mathlib.Core.Path.{_≡_};
 ghost use mathlib.Core.List.{map};
@@ -14,7 +14,7 @@ use state_view::NEXT;
 use state_view::Run;
 use state_view::Totals;
 
-// How many running words are timers: they stand first.
+// How many running words are timers: they come first.
 const TIMERS: usize = 6;
 
 // A timer one tick later.
@@ -65,7 +65,7 @@ pub fn pass_tick(
         put next left (lowered (before set names ids timers rdi run totals)) ⌝ }
     ensures { λ _. ⌜ Whole (now (run .exit)) (now (totals .entry)) ⌝ }
 {
-    // a view of an array tells its length, and costs nothing
+    // a view of an array has its length, and costs nothing
     let _words: &[u32] = run;
     let _both: &[i64] = totals;
     lower_peers(timers);

@@ -1,5 +1,5 @@
--- The fields of a CCM, at their places in the PDU. The paper, "What is in a PDU": the row of opcode 1; the MEP ID is the low 13 bits, the period
--- code the low three of the flags, RDI the highest. All are 0 where the frame is bad or another message. Definitions only.
+-- The fields of a CCM, at their places in the PDU. The paper, "What is in a PDU": the row of opcode 1; the MEP ID is the low 13 bits, the
+-- period code the low three of the flags, RDI the highest. All are 0 where the frame is bad or another message. Definitions only.
 use Prim.Native.Nat.{ℕ, _+_, _/_}
 use mathlib.Core.Bool.{Bool, cond}
 use mathlib.Core.List.{List, []}
@@ -40,6 +40,6 @@ megIn p = part 10 48 p
 unfoldable pub megOf : List ℕ → List ℕ
 megOf f = cond (isCcm f) (megIn (pduOf f)) []
 
--- in the frame's own memory; an empty part stands at the frame's start
+-- in the frame's own memory; an empty part is at the frame's start
 unfoldable pub megPlace : ℕ × ℕ → List ℕ → ℕ × ℕ
 megPlace p f = cond (isCcm f) (p .0, behindHead 10 + p .1) p

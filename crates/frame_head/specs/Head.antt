@@ -28,7 +28,7 @@ isOam f = eqb (etherTypeOf f) 0x8902
 abbrev pub lengthGood : List ℕ → Bool
 lengthGood f = leb 14 (length f) && leb (length f) 1514
 
--- the PDU stands behind the head
+-- the PDU is behind the head
 abbrev pub headLength : ℕ
 headLength = 14
 
@@ -64,7 +64,7 @@ flagsOf p = getD p 2 0
 abbrev pub offsetOf : List ℕ → ℕ
 offsetOf p = getD p 3 0
 
--- TLVs stand from 4 + the frame's own offset on, wherever the opcode's usual ones do
+-- TLVs begin at 4 + the frame's own offset, wherever the opcode's usual ones do
 abbrev pub startOf : List ℕ → ℕ
 startOf p = 4 + offsetOf p
 

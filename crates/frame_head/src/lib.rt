@@ -1,4 +1,4 @@
-// A frame's head: its length and EtherType, its two addresses, where its PDU stands, and the PDU's level and version.
+// A frame's head: its length and EtherType, its two addresses, where its PDU is, and the PDU's level and version.
 // Each function answers for any octets. Nothing here knows of messages, settings or state. Every place behind the head is a place of the
 // PDU: `HEAD_LENGTH`, the 14 octets before it, is in this file alone, and `frame_head.headLength` in one file of the definitions.
 ghost use mathlib.Core.Path.{_≡_};

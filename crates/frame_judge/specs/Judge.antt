@@ -1,4 +1,4 @@
--- What stands before the TLVs of a frame. The paper, "What is in a PDU": the reader takes a frame alone and tests 1, D1, D3, D4 and D5, in this
+-- What is before the TLVs of a frame. The paper, "What is in a PDU": the reader takes a frame alone and tests 1, D1, D3, D4 and D5, in this
 -- order; a service frame is D3. Here all of them but D5. Definitions only.
 use Prim.Native.Nat.{ℕ}
 use mathlib.Core.List.{List, [], _∷_}

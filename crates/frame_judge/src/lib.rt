@@ -1,7 +1,7 @@
 // What is before the TLVs of a PDU: D1, D3 and D4, or where the TLVs start.
 // These tests come before the TLVs in the paper's order; D5 is the walk's. They are given the PDU alone, wherever that is in a frame, need
-// nothing of their caller and answer for any octets. They are a step of the reader, so their answer has no numbers of its own. Who has found
-// the row of the opcode hands it over, so that it is looked up once.
+// nothing of their caller and answer for any octets. They are a step of the reader, so their answer has no numbers of its own. A caller
+// that has found the row of the opcode passes it in, so that it is looked up once.
 ghost use mathlib.Core.Path.{_≡_};
 ghost use Rattle.frame_judge.specs.Judge.{judgeBy, judgePdu};
 use frame_opcodes::Rule;

@@ -1,5 +1,5 @@
--- The fields of loopback messages and of alarms, at their places in the PDU. The paper, "What is in a PDU": the table; the period code is the low
--- three bits of the flags. Each is 0 where the frame is bad or another message. Definitions only.
+-- The fields of loopback messages and of alarms, at their places in the PDU. The paper, "What is in a PDU": the table; the period code is
+-- the low three bits of the flags. Each is 0 where the frame is bad or another message. Definitions only.
 use Prim.Native.Nat.{ℕ}
 use mathlib.Core.Bool.{Bool, _||_, cond}
 use mathlib.Core.List.{List}

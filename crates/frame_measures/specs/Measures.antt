@@ -1,5 +1,5 @@
--- The fields of the messages that measure, at their places in the PDU. The paper, "What is in a PDU": the table. All are 0 where the frame is bad
--- or another message. Definitions only.
+-- The fields of the messages that measure, at their places in the PDU. The paper, "What is in a PDU": the table. All are 0 where the frame
+-- is bad or another message. Definitions only.
 use Prim.Native.Nat.{ℕ, _+_}
 use mathlib.Core.Bool.{Bool, _||_, cond}
 use mathlib.Core.List.{List}

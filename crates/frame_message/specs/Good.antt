@@ -1,5 +1,5 @@
--- A good frame: what the reader asks of one, in full. The paper, "What is in a PDU": it tests only 1, D1, D3, D4 and D5. Definitions and the
--- statement only.
+-- A good frame: what the reader tests of one, in full. The paper, "What is in a PDU": it tests only 1, D1, D3, D4 and D5. Definitions and
+-- the statement only.
 use Prim.Native.Nat.{ℕ, _+_, _≤_, _<_}
 use mathlib.Core.Path.{_≡_}
 use mathlib.Core.Bool.{Bool, true, false}
@@ -13,7 +13,7 @@ use Rattle.frame_head.specs.Head.{etherTypeOf, pduOf, opcodeOf, offsetOf, start
 use Rattle.frame_tlvs.specs.Tlvs.{walkFrom, isCut}
 use Rattle.frame_reader.specs.Reader.{answerOf, valueOf}
 
--- what is asked before the TLVs: 1, D3 of a service frame, D1, D3, D4
+-- what is tested before the TLVs: 1, D3 of a service frame, D1, D3, D4
 pub record Headed (f : List ℕ) : Type 0 where
   pub shortest : 14 ≤ length f
   pub longest : length f ≤ 1514
@@ -42,8 +42,8 @@ tlvsOf f = drop (startOf (pduOf f)) (pduOf f)
 pub record GoodFrames : Type 0 where
   -- the reader gives no reason exactly where a frame is good, whatever type it is asked for
   pub read : (f : List ℕ) (kind : ℕ) → (isBad (answerOf f kind) ≡ false) ↔ Good f
-  -- the fixed part that the opcode's offset tells is there, and an octet behind it
+  -- the fixed part that the opcode's offset gives is there, and an octet behind it
   pub fixed : (f : List ℕ) → Good f → 4 + ruleOf (opcodeOf (pduOf f)) .least < length (pduOf f)
-  -- where nothing before the TLVs is wrong, they alone decide what is read, wherever they stand and whatever stands before them
+  -- where nothing before the TLVs is wrong, they alone decide what is read, wherever they are and whatever is before them
   pub answers : (f g : List ℕ) → Headed f → Headed g → tlvsOf f ≡ tlvsOf g → (kind : ℕ) → answerOf f kind ≡ answerOf g kind
   pub values : (f g : List ℕ) → Headed f → Headed g → tlvsOf f ≡ tlvsOf g → (kind : ℕ) → valueOf f kind ≡ valueOf g kind

@@ -1,5 +1,5 @@
--- Which message a frame is. The paper, "What is in a PDU": the table; rule 4, D7: a CCM of period code 0, an AIS or LCK of a code other than 4
--- and 6. Definitions only.
+-- Which message a frame is. The paper, "What is in a PDU": the table; rule 4, D7: a CCM of period code 0, an AIS or LCK of a code other
+-- than 4 and 6. Definitions only.
 use Prim.Native.Nat.{ℕ, _%_}
 use mathlib.Core.Bool.{Bool, _&&_, _||_, not, cond}
 use mathlib.Core.List.{List}
@@ -22,7 +22,7 @@ periodCode flags = flags % 8
 abbrev pub alarmCode : ℕ → Bool
 alarmCode code = eqb code 4 || eqb code 6
 
--- which codes a message may have, by its row: AIS and LCK 4 or 6, a CCM any but 0; those without a period are not asked
+-- which codes a message may have, by its row: AIS and LCK 4 or 6, a CCM any but 0; those without a period are not tested
 abbrev pub codeGood : Rule → ℕ → Bool
 codeGood r code = (not (r .alarm) || alarmCode code) && (not (r .period) || not (eqb code 0))
 
@@ -30,7 +30,7 @@ codeGood r code = (not (r .alarm) || alarmCode code) && (not (r .period) || not 
 unfoldable pub judgedOf : ℕ → ℕ → MessageAnswer
 judgedOf opcode flags = cond (codeGood (ruleOf opcode) (periodCode flags)) (Message opcode) PeriodCode
 
--- the reader's reason, or what is behind it
+-- the reader's reason, or what comes after it
 abbrev pub unlessBad : TlvAnswer → MessageAnswer → MessageAnswer
 unlessBad (tlv.Bad b) message = Bad b
 unlessBad tlv.NoSuch message = message

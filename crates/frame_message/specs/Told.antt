@@ -14,7 +14,7 @@ use Rattle.frame_message_answer.specs.Told.{tellMessage, messageTold}
 use Rattle.frame_message.specs.Good.{Good}
 use Rattle.frame_message.specs.Message.{periodCode, codeGood, messageOf}
 
--- no reason was told
+-- no reason was given
 abbrev pub isGood : TlvTold → Bool
 isGood t = eqb (t .refusal) 0 && eqb (t .drop) 0
 
@@ -34,10 +34,10 @@ messageNumbers f = behind (Reader.tlvNumbers f 0) (opcodeOf (pduOf f)) (flagsOf 
 abbrev pub goodOpcode : List ℕ → ℕ
 goodOpcode f = messageNumbers f .opcode
 
--- for every frame the answer has the numbers of one chain; an opcode is given of a good frame alone, and is the frame's
+-- for every frame the answer has the numbers of one chain; an opcode is given for a good frame alone, and is the frame's
 pub record MessageNumbers : Type 0 where
   pub agree : (f : List ℕ) → messageTold (messageOf f) ≡ messageNumbers f
-  -- an opcode is told of a good frame with a good period code, and of no other; it is the frame's
+  -- an opcode is given for a good frame with a good period code, and for no other; it is the frame's
   pub opcode : (f : List ℕ) → Good f → codeGood (ruleOf (opcodeOf (pduOf f))) (periodCode (flagsOf (pduOf f))) ≡ true → goodOpcode f ≡ opcodeOf (pduOf f)
   pub only : (f : List ℕ) → (goodOpcode f ≡ 0 → ⊥)
       → Good f × (goodOpcode f ≡ opcodeOf (pduOf f)) × (codeGood (ruleOf (opcodeOf (pduOf f))) (periodCode (flagsOf (pduOf f))) ≡ true)

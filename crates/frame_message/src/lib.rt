@@ -1,7 +1,7 @@
 // Which message a frame is: what the reader tests, and then the period code.
 // Nothing here knows of settings or state. A bad frame's number is the reader's, 1, D1, D3, D4 or D5, and after these D7: a CCM of period
-// code 0, an AIS or LCK of a code other than 4 and 6. D7 comes last, so that the box can test the destination, D6, before it looks at
-// this answer. One answer serves all fields: the functions that read fields give those of their message, and zeros for any other frame.
+// code 0, an AIS or LCK of a code other than 4 and 6. For a frame of its own level the box tests the code by `code_good`, after the
+// destination, D6; this answer is for readers and for lower levels. One answer serves all fields: the functions that read fields give those of their message, and zeros for any other frame.
 // Each judges the frame again, so a caller who needs several fields of one frame pays for that.
 ghost use mathlib.Core.Path.{_≡_};
 ghost use Rattle.frame_message.specs.Message.{codeGood, messageIn, messageOf};
@@ -50,7 +50,7 @@ fn message_in(pdu: &[u8]) -> MessageAnswer
     MessageAnswer::Message(pdu[1])
 }
 
-// Tells which message a frame is: a reason, D7, or its opcode.
+// Which message a frame is: a reason, D7, or its opcode.
 pub fn message_answer(frame: &[u8]) -> MessageAnswer
     ensures { λ r. ⌜ (r ≡ messageOf (now (frame .entry))) × (messageTold r ≡ messageNumbers (now (frame .entry))) ⌝ }
 {

@@ -15,7 +15,7 @@ fn last_of(level: u32) -> u8
     (0x30 | (level & 7)) as u8
 }
 
-// Tells whether an address is the multicast address of a level.
+// Whether an address is the multicast address of a level.
 pub fn is_multicast(address: &[u8], level: u32) -> bool
     ensures { λ r. ⌜ r ≡ same (now (address .entry)) (multicastOf level) ⌝ }
 {

@@ -36,7 +36,7 @@ ruleOf op =
     noRule
 
 -- the paper's lists of opcodes, those read, handled, good to the multicast address, requests, from the loss peer alone, and with a period
--- code that is asked, are those of the one table
+-- code that is tested, are those of the one table
 pub record OpcodeLists : Type 0 where
   pub read : (op : ℕ) → ruleOf op .known ≡ not (absent op (1 ∷ 2 ∷ 3 ∷ 33 ∷ 35 ∷ 42 ∷ 43 ∷ 46 ∷ 47 ∷ []))
   pub handles : (op : ℕ) → ruleOf op .handled ≡ not (absent op (1 ∷ 3 ∷ 33 ∷ 35 ∷ 42 ∷ 43 ∷ 46 ∷ 47 ∷ []))

@@ -1,4 +1,4 @@
--- What a frame is told in the paper's numbers: one chain in the paper's order. Definitions and statements only.
+-- What is answered of a frame, in the paper's numbers: one chain in the paper's order. Definitions and statements only.
 use Prim.Native.Nat.{ℕ}
 use mathlib.Core.Path.{_≡_}
 use mathlib.Core.List.{List, [], _∷_}
@@ -40,11 +40,11 @@ tlvNumbers f kind =
 -- for every frame and type the reader gives the numbers of one chain, in the paper's order; no two answers have the same numbers; type 0
 -- is never a value; beside a refusal or a drop there is no value
 pub record ReaderNumbers : Type 0 where
-  -- the staged search tells the numbers of the one chain
+  -- the staged search gives the numbers of the one chain
   pub agree : (f : List ℕ) (kind : ℕ) → tlvTold (answerOf f kind) ≡ tlvNumbers f kind
-  -- no two answers are told alike
+  -- no two answers have the same numbers
   pub apart : (a b : TlvAnswer) → tlvTold a ≡ tlvTold b → a ≡ b
   -- type 0 is never a value
   pub never : (f : List ℕ) → tlvTold (answerOf f 0) .value ≡ 0
-  -- beside a refusal or a drop no value is told
+  -- beside a refusal or a drop no value is given
   pub bare : (b : Bad) → tlvTold (answer.Bad b) .value ≡ 0

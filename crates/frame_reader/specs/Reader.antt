@@ -1,4 +1,4 @@
--- What a frame reads as, asked for a TLV type: what the search finds, as the caller is handed it. Definitions only.
+-- What a frame reads as, asked for a TLV type: what the search finds, as the caller is given it. Definitions only.
 use Prim.Native.Nat.{ℕ, _+_}
 use mathlib.Core.List.{List, []}
 use Rattle.base_laws.specs.Lists.{part}
@@ -17,7 +17,7 @@ partOf f (seek.Bad b) = []
 unfoldable pub valueOf : List ℕ → ℕ → List ℕ
 valueOf f kind = partOf f (seekOf f kind)
 
--- where they stand: in the frame's own memory, at the value's start; where there is no such TLV or the frame is bad, at the frame's start
+-- where they are: in the frame's own memory, at the value's start; where there is no such TLV or the frame is bad, at the frame's start
 abbrev pub placeAt : ℕ × ℕ → Seek → ℕ × ℕ
 placeAt p (seek.Value start len) = (p .0, start + p .1)
 placeAt p seek.NoSuch = p

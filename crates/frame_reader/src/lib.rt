@@ -23,7 +23,7 @@ pub fn tlv_value(frame: &[u8], kind: u8) -> &[u8]
     }
 }
 
-// Tells a value, even an empty one, from no such TLV and from a bad frame.
+// Answers which it is: a value, even an empty one, no such TLV, or a bad frame.
 pub fn tlv_answer(frame: &[u8], kind: u8) -> TlvAnswer
     ensures { λ r. ⌜ (r ≡ answerOf (now (frame .entry)) kind) × (tlvTold r ≡ tlvNumbers (now (frame .entry)) kind) ⌝ }
 {

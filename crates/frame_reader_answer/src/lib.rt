@@ -17,7 +17,7 @@ pub enum Bad {
     CutOff,
 }
 
-// What the call beside the reader tells: a value, even an empty one, no such TLV, or a reason.
+// What the call beside the reader answers: a value, even an empty one, no such TLV, or a reason.
 pub enum TlvAnswer {
     Value,
     NoSuch,

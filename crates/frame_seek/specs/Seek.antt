@@ -1,5 +1,5 @@
--- Where in a frame the first TLV of a type stands. The paper, "What is in a PDU": the reader takes a frame alone and tests 1, D1, D3, D4 and D5,
--- in this order; a service frame is D3. Definitions only.
+-- Where in a frame the first TLV of a type stands. The paper, "What is in a PDU": the reader takes a frame alone and tests 1, D1, D3, D4
+-- and D5, in this order; a service frame is D3. Definitions only.
 use Prim.Native.Nat.{ℕ, _+_, _≤_}
 use mathlib.Core.List.{List}
 use mathlib.Core.Bool.{cond}
@@ -28,7 +28,7 @@ abbrev pub seekAt : ℕ → List ℕ → Head → Seek
 seekAt kind p (head.Bad b) = seek.Bad b
 seekAt kind p (head.Tlvs start) = whole (walkFrom 0 start p) (walkFrom kind start p)
 
--- of a PDU alone: D1, D3, D4 or D5, no such TLV, or where in the PDU its value stands
+-- of a PDU alone: D1, D3, D4 or D5, no such TLV, or where in the PDU its value is
 unfoldable pub seekIn : List ℕ → ℕ → Seek
 seekIn p kind = seekAt kind p (judgePdu p)
 
@@ -38,11 +38,11 @@ inFrame (seek.Value start len) = seek.Value (behindHead start) len
 inFrame seek.NoSuch = seek.NoSuch
 inFrame (seek.Bad b) = seek.Bad b
 
--- a bad frame's reason, no such TLV, or where in the frame its value stands
+-- a bad frame's reason, no such TLV, or where in the frame its value is
 unfoldable pub seekOf : List ℕ → ℕ → Seek
 seekOf f kind = inFrame (seekAt kind (pduOf f) (judge f))
 
--- a value that is found lies in the frame
+-- a value that is found is in the frame
 abbrev pub Within : List ℕ → Seek → Type 0
 Within f (seek.Value start len) = start + len ≤ length f
 Within f seek.NoSuch = Unit

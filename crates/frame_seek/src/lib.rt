@@ -1,5 +1,5 @@
 // The search for a TLV, and D5: where the value of the first one of a type is, or why it cannot be read; in a PDU, and in a frame.
-// A cut behind the wanted TLV is D5 too, so the walk goes on to the end: from the wanted TLV on it is the same loop, for type 0, which stops
+// A cut behind the wanted TLV is D5 too, so the walk goes to the end: from the wanted TLV on it is the same loop, for type 0, which stops
 // at nothing but the end or a cut. No function needs anything.
 ghost use mathlib.Core.Path.{_≡_};
 ghost use Rattle.frame_seek.specs.Seek.{seekIn, seekOf, Within};
@@ -14,7 +14,7 @@ use frame_tlvs::Place;
 use frame_tlvs::tlvs_whole;
 use frame_tlvs::walk;
 
-// What a search for a TLV finds: a reason, no such TLV, or where its value stands.
+// What a search for a TLV finds: a reason, no such TLV, or where its value is.
 pub enum Seek {
     Bad(Bad),
     NoSuch,

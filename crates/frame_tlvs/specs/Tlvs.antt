@@ -32,9 +32,9 @@ firstOf kind (tlv ∷ ts) = cond (eqb (tlv .0) kind) (some (tlv .1)) (firstOf ki
 abbrev pub lengthOf : List ℕ → ℕ
 lengthOf xs = number bigEndian (part 0 2 xs)
 
--- where a walk over the octets xs, which stand at place `at`, stops; the first `left` of xs still belong to the TLV before. Type 0 is the
+-- where a walk over the octets xs, which are at place `at`, stops; the first `left` of xs still belong to the TLV before. Type 0 is the
 -- end. Any other has two octets of length and a value behind it: where these are not all there, it is cut; else it is the wanted one, whose
--- value's start and length are told, or it is passed over
+-- value's start and length are given, or it is passed over
 unfoldable pub walk : ℕ → ℕ → List ℕ → ℕ → Place
 walk kind left [] at = Cut at
 walk kind (suc left) (x ∷ xs) at = walk kind left xs (at + 1)
@@ -58,7 +58,7 @@ isCut (Found start len) = false
 abbrev pub tlvsWhole : ℕ → List ℕ → Bool
 tlvsWhole at p = not (isCut (walkFrom 0 at p))
 
--- a value that is found lies in the PDU
+-- a value that is found is in the PDU
 abbrev pub Inside : List ℕ → Place → Type 0
 Inside p (Found start len) = start + len ≤ length p
 Inside p (End at) = Unit
@@ -73,8 +73,8 @@ valueAt p (Cut at) = none
 
 -- the walk over TLVs finds the first of each type that their grammar has, and ends exactly where there are TLVs
 pub record WalkAgrees : Type 0 where
-  -- where a run of TLVs stands, the walk finds the first of each type, and none of type 0
+  -- where there is a run of TLVs, the walk finds the first of each type, and none of type 0
   pub finds : (kind : ℕ) (p : List ℕ) (at : ℕ) (ts : List (ℕ × List ℕ)) → Tlvs (drop at p) ts → valueAt p (walkFrom kind at p) ≡ firstOf kind ts
-  -- where the walk for the end ends, a run of TLVs stands; so a PDU where it does not has none
+  -- where the walk for the end ends, there is a run of TLVs; so a PDU where it does not has none
   pub stands : (p : List ℕ) (at e : ℕ) → Octets p → walkFrom 0 at p ≡ End e → (ts : List (ℕ × List ℕ)) × Tlvs (drop at p) ts
   pub ends : (p : List ℕ) (at : ℕ) (ts : List (ℕ × List ℕ)) → Tlvs (drop at p) ts → (e : ℕ) × (walkFrom 0 at p ≡ End e)

@@ -13,7 +13,7 @@ pub enum Place {
     Cut(usize),
 }
 
-// Walks over the TLVs of a PDU from a place on, and stops at type 0, at the wanted type, or at a cut; a value that is found lies inside.
+// Walks over the TLVs of a PDU from a place on, and stops at type 0, at the wanted type, or at a cut; a value that is found is inside.
 pub fn walk(pdu: &[u8], kind: u8, start: usize) -> Place
     ensures { λ r. ⌜ (r ≡ walkFrom kind start (now (pdu .entry))) × Inside (now (pdu .entry)) r ⌝ }
 {

@@ -1,4 +1,4 @@
--- The paper's numbers for a frame and what its value is held to. Definitions only.
+-- The paper's numbers for a frame and what its value is tested for. Definitions only.
 use Prim.Native.Nat.{ℕ}
 use mathlib.Core.List.{List}
 use mathlib.Core.Bool.{Bool, _&&_, cond}

@@ -17,5 +17,5 @@ valueTold (Bad b) = tellValue (badOf b .refusal) (badOf b .drop) 0 0
 
 -- no two answers on a value have the same numbers
 pub record ValueNumbers : Type 0 where
-  -- no two are told alike
+  -- no two have the same numbers
   pub apart : (a b : ValueAnswer) → valueTold a ≡ valueTold b → a ≡ b

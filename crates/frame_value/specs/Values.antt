@@ -1,6 +1,6 @@
--- What the value of a data TLV or of a test TLV is held to. The paper, on forms: a TLV's value comes back as a part of the caller's slice,
--- for data and test checks. The standard, figures 9.3-3 and 9.3-4: the value of a data TLV is free; that of a test TLV begins with its
--- pattern type, and type 0 is a run of zeros without check sequence. Definitions only.
+-- What the value of a data TLV or of a test TLV is tested for. The paper, on forms: a TLV's value comes back as a part of the caller's
+-- slice, for data and test checks. The standard, figures 9.3-3 and 9.3-4: the value of a data TLV is free; that of a test TLV begins with
+-- its pattern type, and type 0 is a run of zeros without check sequence. Definitions only.
 use Prim.Native.Nat.{ℕ}
 use mathlib.Core.List.{List}
 use mathlib.Core.Bool.{Bool, _&&_, cond}
@@ -23,7 +23,7 @@ testType = 32
 abbrev pub isZero : ℕ → Bool
 isZero x = eqb x 0
 
--- pattern type 0 is there, and what stands behind it is zero too
+-- pattern type 0 is there, and what is behind it is zero too
 abbrev pub zeroPattern : List ℕ → Bool
 zeroPattern v = ltb 0 (length v) && every isZero v
 

@@ -68,7 +68,7 @@ pub fn tell(answer: ValueAnswer) -> ValueTold
     }
 }
 
-// Tells whether a test TLV's value is pattern type 0, a null signal without check sequence, and zeros behind it.
+// Whether a test TLV's value is pattern type 0, a null signal without check sequence, and zeros behind it.
 fn zero_pattern(value: &[u8]) -> bool
     ensures { λ r. ⌜ r ≡ zeroPattern (now (value .entry)) ⌝ }
 {

@@ -48,7 +48,7 @@ fn print_stamp(word: &[u8], stamp: Stamp) {
     print_number(b" ", stamp.nanoseconds);
 }
 
-// A refusal or a drop; tells whether there was one.
+// A refusal or a drop; returns whether there was one.
 fn print_reason(refusal: u32, drop: u32) -> bool {
     if refusal != 0 {
         print_number(b"refused ", refusal);
@@ -162,10 +162,10 @@ fn show(frame: &[u8], kind: u8) {
     io::write_all(STDOUT_FILENO, b"\n");
 }
 
-// The octets that a line may have; a frame of more is too long in any case, and what is more is let go.
+// The octets that a line may have; a frame of more is too long in any case, and the rest is ignored.
 const LINE: usize = 2048;
 
-// Where a line stands.
+// How far a line has been read.
 struct Marks {
     // The line's number, counted from 1.
     number: u64,

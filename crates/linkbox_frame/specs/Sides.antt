@@ -1,5 +1,5 @@
--- The side that a frame came from, as a number of C's: 0 is the active side, any other the passive one. The paper names two sides and no third.
--- Definitions only.
+-- The side that a frame came from, as a number of C's: 0 is the active side, any other the passive one. The paper names two sides and no
+-- third. Definitions only.
 use Prim.Native.Nat.{ℕ}
 use mathlib.Core.Bool.{cond}
 use lib.Dec.{eqb}

@@ -1,7 +1,7 @@
-// The boundary to C: a frame to a box, on the arrays that hold the state, told in the paper's numbers.
-// It is for firmware in C or Rust; linkbox_raw.h declares it. It calls the function of its room and tells its answer.
-// Any content of the memory is a value. What a caller sees to is that the pointers are to memory of these sizes, and that what is written
-// overlaps nothing else that is handed over.
+// The boundary to C: a frame to a box, on the arrays that hold the state, answered in the paper's numbers.
+// It is for firmware in C or Rust; linkbox_raw.h declares it. It calls the Rattle function of the same call and returns its answer in
+// numbers. Any content of the memory is accepted. The caller must pass pointers to memory of these sizes, and what is written must overlap
+// nothing else that is passed in.
 ghost use mathlib.Core.Path.{_≡_};
 ghost use Rattle.base_laws.specs.Ended.{ended, toldBy};
 ghost use Rattle.state_view.specs.State.{before, after};

@@ -1,8 +1,8 @@
 // The boundary to C: the loss line of a box's session as a stored record, answered in the paper's numbers.
 // It is for firmware in C or Rust; linkbox_raw.h declares it. A line's record is what the firm stores each minute, and the session's own
-// words are written as they lie. The session of a well-formed state keeps the rules of a line, so the writer's refusal 4 never comes
-// (`linkbox_line.LossLines`). Any content of the memory is a value. What a caller sees to is that the pointers are to memory of these
-// sizes, and that what is written overlaps nothing else that is passed in.
+// words are written as they are. The session of a well-formed state keeps the rules of a line, so the writer's refusal 4 never comes
+// (`linkbox_line.LossLines`). Any content of the memory is accepted. The caller must pass pointers to memory of these sizes, and what is
+// written must overlap nothing else that is passed in.
 ghost use mathlib.Core.Path.{_≡_};
 ghost use Rattle.base_laws.specs.Ended.{wrote};
 ghost use Rattle.state_view.specs.State.{before, sessionIn};

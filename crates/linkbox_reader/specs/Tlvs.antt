@@ -1,4 +1,4 @@
--- A TLV told in numbers: those of the reader's answer, and where in the frame the value stands and how long it is, 0 and 0 where there is none.
+-- A TLV in numbers: those of the reader's answer, and where in the frame the value is and how long it is, 0 and 0 where there is none.
 -- Definitions only.
 use Prim.Native.Nat.{ℕ}
 use Rattle.frame_reader_answer.specs.Told.{tlvTold}

@@ -1,6 +1,6 @@
-// The boundary to C: the reader of TLVs, told in the paper's numbers.
-// It is for firmware in C or Rust; linkbox.h declares it. It calls the function of its room and tells its answer.
-// Any content of the memory is a value. What a caller sees to is that the pointer is to memory of this size.
+// The boundary to C: the reader of TLVs, answered in the paper's numbers.
+// It is for firmware in C or Rust; linkbox.h declares it. It calls the Rattle function of the same call and returns its answer in numbers.
+// Any content of the memory is accepted. The caller must pass a pointer to memory of this size.
 ghost use mathlib.Core.Path.{_≡_};
 ghost use Rattle.frame_reader_answer.specs.Told.{tlvTold};
 ghost use Rattle.frame_seek.specs.Seek.{seekOf};
@@ -9,7 +9,7 @@ use frame_reader_answer::TlvAnswer;
 use frame_seek::Seek;
 use frame_seek::seek_frame;
 
-// A TLV in the paper's numbers: the refusal, or 0; the drop, or 0; 1 where there is a value; and where in the frame it stands.
+// A TLV in the paper's numbers: the refusal, or 0; the drop, or 0; 1 where there is a value; and where in the frame it is.
 #[repr(C)]
 pub struct TlvAt {
     pub refusal: u32,
@@ -34,7 +34,7 @@ fn placed(answer: TlvAnswer, start: usize, length: usize) -> TlvAt
     }
 }
 
-// The first TLV of a type in a frame: whether there is a value, where in the frame it stands and how long it is, 0 and 0 where there is none.
+// The first TLV of a type in a frame: whether there is a value, where in the frame it is and how long it is, 0 and 0 where there is none.
 #[no_mangle]
 pub extern "C" fn linkbox_tlv(frame: &[u8], kind: u8) -> TlvAt
     ensures { λ r. ⌜ r ≡ tlvAt (seekOf (now (frame .entry)) kind) ⌝ }

@@ -1,5 +1,5 @@
--- How a program in C reads what it is told: the paper's answer from the numbers of each struct. And the other way, where an answer leaves
--- no choice: the numbers of each answer, every other value being 0. The paper, "Refusals". Definitions only.
+-- How a program in C reads what it is answered: the paper's answer from the numbers of each struct. And the other way, where an answer
+-- leaves no choice: the numbers of each answer, every other value being 0. The paper, "Refusals". Definitions only.
 use Prim.Native.Nat.{ℕ}
 use mathlib.Core.Bool.{cond, not}
 use mathlib.Core.List.{List, [], _∷_}

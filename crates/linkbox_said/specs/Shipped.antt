@@ -39,8 +39,8 @@ use Rattle.linkbox_line.proofs.linkbox_raw_loss_line.Reads as loss-line
 use Rattle.linkbox_said.specs.Heard.{plainSays, frameSays, tickSays, sendSays, settingsSays, writeSays, lineSays, tlvSays, writeHeard, lineHeard, tlvHeard}
 use Rattle.linkbox_said.specs.Lying.{stateIn, leftByFrame, leftByTick, leftByClear, arrivalIn}
 
--- the answer that C reads from its numbers is the paper's, and the numbers are those of that answer, all others 0; the state that lies with
--- C then, its buffer, and what it is handed out are the paper's too
+-- the answer that C reads from its numbers is the paper's, and the numbers are those of that answer, all others 0; the state that C then
+-- holds, its buffer, and what is returned to it are the paper's too
 pub record Tells (x : Answer) (n : Numbers) (s : State) (b : List ℕ) (h : HandedOut) (o : Outcome) : Type 0 where
   pub answer : x ≡ o .answer
   pub numbers : n ≡ answerNumbers (o .answer)
@@ -53,7 +53,7 @@ pub record Tells (x : Answer) (n : Numbers) (s : State) (b : List ℕ) (h : Hand
 -- for each function that C calls on a box, whatever its contract allows is the paper's outcome: the answer read from the numbers, the
 -- state in memory then, the buffer
 pub record Shipped : Type 1 where
-  -- a new setting: the caller takes over what is handed out, unless it is refused
+  -- a new setting: the caller takes over what is returned, unless it is refused
   pub new-setting : (κs : _) (a : _) (r : _) (s : _) → new-setting.Post κs a r s → Octets (now (a .1 .0)) → (before : State) (o : Outcome)
       → Said before (call.new-setting (settingsOf (now (a .0)) (now (a .1 .0)) (now (a .1 .1 .0)))) o
       → Tells (plainSays (r .refusal)) (counted (r .refusal) 0 0) (takenOver before (r .refusal) (shown (r .state))) []

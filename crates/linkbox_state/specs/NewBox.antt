@@ -1,4 +1,4 @@
--- What C is told of a new setting, and the state that it is handed: the room's own, the answer by its number. Definitions only.
+-- What C is answered to a new setting, and the state that is returned: those of `call_setting`, the answer by its number. Definitions only.
 use Prim.Native.Nat.{ℕ}
 use mathlib.Core.List.{List}
 use Rattle.state_settings.specs.Settings.{settingsOf}

@@ -1,8 +1,8 @@
-// The boundary to C: a new setting, a clear and what stands, on the arrays that hold the state, told in the paper's numbers.
-// Beside them it answers how many octets a box has here, for a caller to compare with its own struct.
-// These are for firmware in C or Rust; linkbox.h and linkbox_raw.h declare them. Each calls the function of its room and tells its answer.
-// Any content of the memory is a value. What a caller sees to is that the pointers are to memory of these sizes, and that what is written
-// overlaps nothing else that is handed over.
+// The boundary to C: a new setting, a clear and the active conditions, on the arrays that hold the state, answered in the paper's numbers.
+// Beside them it answers how many octets a box has here, for a caller to compare with its own struct. These are for firmware in C or Rust;
+// linkbox.h and linkbox_raw.h declare them. Each calls the Rattle function of the same call and returns its answer in numbers. Any content
+// of the memory is accepted. The caller must pass pointers to memory of these sizes, and what is written must overlap nothing else that is
+// passed in.
 ghost use mathlib.Core.List.{[]};
 ghost use mathlib.Core.Path.{_≡_};
 ghost use Rattle.state_settings.specs.Settings.{slots, lentSettings, Shaped};
@@ -26,7 +26,7 @@ use state_view::Run;
 use state_view::TOTALS;
 use state_view::Totals;
 
-// A new setting, from settings that are only read. The caller takes the state over, or leaves it where it is refused.
+// A new setting, from settings that are only read. The caller takes the new state, or keeps its own where it is refused.
 #[no_mangle]
 pub extern "C" fn linkbox_raw_new_setting(set: &Set, names: &Names, ids: &Slots) -> NewBox
     ensures { λ r. ⌜ r ≡ newBox (now (set .entry)) (now (names .entry)) (now (ids .entry)) ⌝ }
@@ -35,7 +35,7 @@ pub extern "C" fn linkbox_raw_new_setting(set: &Set, names: &Names, ids: &Slots)
     call_setting::new_box(set, names, ids)
 }
 
-// A clear of the loss session; tells 0, or refusal 2.
+// A clear of the loss session; returns 0, or refusal 2.
 #[no_mangle]
 pub extern "C" fn linkbox_raw_clear(
     set: &Set,
@@ -55,7 +55,7 @@ pub extern "C" fn linkbox_raw_clear(
     told.refusal
 }
 
-// What stands, one by one.
+// The conditions, each by itself.
 #[no_mangle]
 pub extern "C" fn linkbox_raw_conditions(
     set: &Set,

@@ -70,7 +70,7 @@ pub record Demand3 (f : Step) : Type 0 where
 
 -- ── both sides ──
 
--- the four true counts behind a reading, of any size
+-- the four true counts of a reading, of any size
 pub record Counts : Type 0 where
   pub txf : ℕ
   pub rxf : ℕ

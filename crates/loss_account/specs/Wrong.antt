@@ -12,7 +12,7 @@ use Rattle.loss_reading.specs.declared.LossAnswer.the-variants.{NotWellFormed, 
 use Rattle.loss_reading.specs.Reading.{afterReading}
 use Rattle.loss_account.specs.Demand3.{Step, Demand3}
 
--- touches nothing
+-- changes nothing
 abbrev pub idle : Step
 idle s r = record { answer = First; session = s }
 
@@ -56,7 +56,7 @@ wrapless =
     (λ s r a.
     retold (λ x. plain (s .last .txb) (r .txb) (s .last .ours) (r .ours)) (λ y. plain (s .last .txf) (r .txf) (s .last .rxf) (r .rxf)) a)
 
--- near and far changed over
+-- near and far exchanged
 abbrev swapped : LossAnswer → LossAnswer
 swapped NotWellFormed = NotWellFormed
 swapped Full = Full
@@ -66,7 +66,7 @@ swapped (Measured x y) = Measured y x
 abbrev pub crossed : Step
 crossed = answering (λ s r a. swapped a)
 
--- holds the last interval's loss for a total
+-- takes the last interval's loss for a total
 abbrev lastOnly : LossAnswer → LossSession → LossSession
 lastOnly NotWellFormed s = s
 lastOnly Full s = s

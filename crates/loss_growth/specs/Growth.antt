@@ -12,7 +12,7 @@ growth m earlier later = (later + (m - earlier)) % m
 abbrev pub lossBetween : ℕ → ℕ → ℕ → ℕ → ℤ
 lossBetween sent sent-now received received-now = subℕ (growth (2 ^ 32) sent sent-now) (growth (2 ^ 32) received received-now)
 
--- growth (`loss_growth.growth`) of readings is true growth, for any modulus; a loss lies within 4,294,967,295 on either side of 0
+-- growth (`loss_growth.growth`) of readings is true growth, for any modulus; a loss is within 4,294,967,295 on either side of 0
 pub record Growths : Type 0 where
   -- once for any modulus: of true counts a ≤ b that are less than m apart, the readings modulo m grow by b - a
   pub true-growth : (m a b : ℕ) → 0 < m → a ≤ b → b - a < m → growth m (a % m) (b % m) ≡ b - a

@@ -1,5 +1,5 @@
 -- Demand 3 of the order for a session that is lent, as a predicate on any lent call. It names no rule by which a call might count: only the
--- cleared session, the true counts behind the readings, and the account. Definitions and statements only.
+-- cleared session, the true counts of the readings, and the account. Definitions and statements only.
 use Prim.Native.Nat.{_-_, _≤_}
 use mathlib.Core.Path.{_≡_}
 use mathlib.Core.List.{List, map}
@@ -13,7 +13,7 @@ use Rattle.loss_account.specs.Account.{total}
 use Rattle.loss_account.specs.Demand3.{Counts, truthOf, shown, Steady, accountedBoth, Small}
 use Rattle.loss_lent.specs.Lent.{Lent, Lending, LentRun}
 
--- what was told and what lies there agree with the account in unlimited whole numbers: near and far of each interval, sent less received
+-- what was answered and what is held agree with the account in unlimited whole numbers: near and far of each interval, sent less received
 -- with its sign, and 0 and 0 of the first reading; both totals since the first reading; one interval fewer than readings, or 0 if there
 -- were none
 pub record LentAgrees (ts : List Counts) (said : List LossTold) (e : LossSession) : Type 0 where
@@ -23,17 +23,17 @@ pub record LentAgrees (ts : List Counts) (said : List LossTold) (e : LossSession
 
 -- the demand
 pub record LentDemand3 (L : Lending) : Type 0 where
-  -- there is an answer, whatever lies there and whatever is read
+  -- there is an answer, whatever the session holds and whatever is read
   pub answered : (s : LossSession) (r : Readings) → (t : LossTold) × (e : LossSession) × L s r t e
   -- take any run since the session was cleared, each call given the session that the last one left, with at most 1,000,000,001 readings:
   -- let each of the four be a true count modulo 2^32, and let none fall, or grow by 2^32 or more, from one reading to the next
   pub agrees : (ts : List Counts) (said : List LossTold) (e : LossSession) → length ts ≤ mostReadings → Steady ts
       → LentRun L clearedSession (map shown ts) said e → LentAgrees ts said e
-  -- no further reading is accepted: it is refused with 5 and leaves what lies there
+  -- no further reading is accepted: it is refused with 5 and leaves the session
   pub later : (rs : List Readings) (said : List LossTold) (s : LossSession) (r : Readings) (t : LossTold) (e : LossSession)
       → mostReadings ≤ length rs → LentRun L clearedSession rs said s → L s r t e → (t ≡ refused 5) × (e ≡ s)
 
--- two runs were told the same, and hold the same totals and intervals
+-- two runs were answered the same, and hold the same totals and intervals
 pub record LentAlike (said said′ : List LossTold) (e e′ : LossSession) : Type 0 where
   pub results : said ≡ said′
   pub totals : (d : LossEnd) → totalOf d e ≡ totalOf d e′

@@ -1,5 +1,5 @@
 -- The lent session, as the paper's lines: rule 7, last sentence, with refusals 2 and 5. Each line holds its whole condition and its whole
--- outcome: what is told, and the session that lies there then. Definitions and the statement only.
+-- outcome: what is answered, and the session that is there then. Definitions and the statement only.
 use Prim.Native.Nat.{_<_}
 use mathlib.Core.Path.{_≡_}
 use lib.IntN.{pos}
@@ -11,7 +11,7 @@ use Rattle.loss_reading.specs.Reading.{lossOn, firstOf, measuredOf}
 use Rattle.loss_reading.specs.Told.{refused, results}
 use Rattle.loss_lent.specs.Lent.{Lending, Lent}
 
--- `LentSaid s r t e`: a session s, given the reading r, is told t, and e lies there then
+-- `LentSaid s r t e`: a session s, given the reading r, is answered t, and e is there then
 pub data LentSaid (s : LossSession) (r : Readings) : LossTold → LossSession → Type 0 where
   -- 2: it breaks a rule on intervals, reading or totals
   lent-2 : (WellFormed s → ⊥) → LentSaid s r (refused 2) s
@@ -23,7 +23,7 @@ pub data LentSaid (s : LossSession) (r : Readings) : LossTold → LossSession �
   -- 5: it would be interval 1,000,000,001
   lent-5 : WellFormed s → s .kept ≡ 1 → s .intervals ≡ mostIntervals → LentSaid s r (refused 5) s
 
--- whatever the paper says of a lent session, L tells and leaves
+-- whatever the paper says of a lent session, L answers and leaves
 abbrev pub FollowsLent : Lending → Type 0
 FollowsLent L = (s : LossSession) (r : Readings) (t u : LossTold) (e f : LossSession) → L s r t e → LentSaid s r u f → (t ≡ u) × (e ≡ f)
 

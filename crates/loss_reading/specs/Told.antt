@@ -27,7 +27,7 @@ lossTold Full = refused 5
 lossTold First = results (pos 0) (pos 0)
 lossTold (Measured n f) = results n f
 
--- what one more reading is told, in the paper's numbers alone
+-- what one more reading is answered, in the paper's numbers alone
 unfoldable pub lossNumbers : LossSession → Readings → LossTold
 lossNumbers s r =
     choose (

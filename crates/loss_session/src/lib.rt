@@ -66,8 +66,8 @@ fn all_zero(r: Readings) -> bool
     (r.txf == 0) & (r.rxf == 0) & (r.txb == 0) & (r.ours == 0)
 }
 
-// Whether the paper's rules on kept reading, intervals and totals hold. It is out at the first rule that fails; and where a good session
-// comes from this test, the compiler knows by the way it came whether a reading is kept, and does not look again.
+// Whether the paper's rules on kept reading, intervals and totals hold. It returns at the first rule that fails; and of a session that
+// passes, the compiler knows by the branch taken whether a reading is kept, and does not test that again.
 pub fn well_formed(s: LossSession) -> bool
     ensures { λ r. ⌜ r ≡ wellFormed s ⌝ }
 {

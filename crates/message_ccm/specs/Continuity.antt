@@ -1,5 +1,5 @@
--- The octets of a CCM. The paper, "What is in a PDU": the table of fixed parts, and the versions sent; "A tick": the CCM. Definitions and the
--- statement only.
+-- The octets of a CCM. The paper, "What is in a PDU": the table of fixed parts, and the versions sent; "A tick": the CCM. Definitions and
+-- the statement only.
 use Prim.Native.Nat.{ℕ}
 use mathlib.Core.Path.{_≡_}
 use mathlib.Core.List.{List, _++_}
@@ -29,7 +29,7 @@ ccmOctets source meg c =
     ++ afterDestination source (firstOctet (c .level) 0) 1 (ccmFlags (c .rdi) (c .period)) 70
     ++ ccmFixed meg c
 
--- with our own address and MEG ID, as they lie among the names
+-- with our own address and MEG ID, as they are among the names
 abbrev pub ccmNamed : List ℕ → CcmValues → List ℕ
 ccmNamed names c = ccmOctets (ownNamed names) (megNamed names) c
 

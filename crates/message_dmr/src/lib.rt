@@ -1,4 +1,4 @@
-// The delay reply (DMR): the reply with opcode 46 and the two stamps, given or not. Asks nothing of its caller.
+// The delay reply (DMR): the reply with opcode 46 and the two stamps, given or not. Needs nothing of its caller.
 ghost use mathlib.Core.Path.{_≡_};
 ghost use Rattle.message_reply.specs.Replied.{repliedOf, leftOf, repliedTold, repliedNumbers};
 ghost use Rattle.message_dmr.specs.Dmr.{dmrOctets};

@@ -1,4 +1,4 @@
-// The loopback reply (LBR): the request with its source as destination, our address as source, and opcode 2. Asks nothing of its caller.
+// The loopback reply (LBR): the request with its source as destination, our address as source, and opcode 2. Needs nothing of its caller.
 ghost use mathlib.Core.Path.{_≡_};
 ghost use Rattle.message_reply.specs.Replied.{repliedOf, leftOf, repliedTold, repliedNumbers};
 ghost use Rattle.message_lbr.specs.Lbr.{lbrOctets};

@@ -1,4 +1,4 @@
-// The loss reply (LMR): the reply with opcode 42, our received count in RxFCf, our sent count in TxFCb. Asks nothing of its caller.
+// The loss reply (LMR): the reply with opcode 42, our received count in RxFCf, our sent count in TxFCb. Needs nothing of its caller.
 ghost use mathlib.Core.Path.{_≡_};
 ghost use Rattle.message_reply.specs.Replied.{repliedOf, leftOf, repliedTold, repliedNumbers};
 ghost use Rattle.message_lmr.specs.Lmr.{lmrOctets};

@@ -1,5 +1,5 @@
--- A message and the caller's buffer. The paper, refusal 3: a message must be written and the buffer is shorter than it; a refused call leaves
--- buffers unchanged; rule 6: octets of the buffer after a written message stay. Definitions and the statement only.
+-- A message and the caller's buffer. The paper, refusal 3: a message must be written and the buffer is shorter than it; a refused call
+-- leaves buffers unchanged; rule 6: octets of the buffer after a written message stay. Definitions and the statement only.
 use Prim.Native.Nat.{ℕ}
 use mathlib.Core.Path.{_≡_}
 use mathlib.Core.List.{List}

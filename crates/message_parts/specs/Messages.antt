@@ -1,4 +1,4 @@
--- What the octets of messages share: counts, stamps, and what stands between the destination and the fixed part. The paper, "Numbers" and
+-- What the octets of messages share: counts, stamps, and what is between the destination and the fixed part. The paper, "Numbers" and
 -- "What is in a PDU". Definitions only.
 use Prim.Native.Nat.{ℕ}
 use mathlib.Core.List.{List, [], _∷_, _++_}

@@ -14,7 +14,7 @@ use frame_head::HEAD_LENGTH;
 pub enum Written {
     // Refusal 3: the buffer is shorter than the message.
     NoRoom,
-    // The message stands in the buffer's first octets, so many.
+    // The message is in the buffer's first octets, so many.
     Octets(usize),
 }
 
@@ -34,7 +34,7 @@ pub fn write_stamp(into: &mut [u8], at: usize, stamp: Stamp)
     write_big(into, at + 4, 4, stamp.nanoseconds);
 }
 
-// Writes what stands between the destination and the fixed part: source, 89-02, and the PDU's first four octets.
+// Writes what is between the destination and the fixed part: source, 89-02, and the PDU's first four octets.
 pub fn write_head(into: &mut [u8], source: &[u8], first: u8, opcode: u8, flags: u8, offset: u8)
     requires { ⌜ (behindHead 4 ≤ length (now into)) × (length (now source) ≡ 6) ⌝ }
     ensures { λ _. ⌜ now (into .exit) ≡ laid 6 (afterDestination (now (source .entry)) first opcode flags offset) (now (into .entry)) ⌝ }

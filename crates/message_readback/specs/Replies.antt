@@ -21,7 +21,7 @@ use Rattle.message_dmr.specs.Dmr.{dmrOctets}
 use Rattle.message_reply.specs.Replied.{cutOff}
 use Rattle.message_readback.specs.Heads.{Says, Word}
 
--- what every reply keeps: the length, level, version, flags and offset, and every TLV with all that stands behind it. It goes to the
+-- what every reply keeps: the length, level, version, flags and offset, and every TLV with all that is behind it. It goes to the
 -- request's source, comes from our address, and is the message that answers it
 pub record Answers (own request : List ℕ) (opcode : ℕ) (f : List ℕ) : Type 0 where
   pub long : length f ≡ length request

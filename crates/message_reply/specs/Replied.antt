@@ -1,6 +1,6 @@
 -- What a request is answered, and what is left in the buffer. The paper, "Refusals": 3 where the buffer is shorter than the message, and
--- nothing is touched. The caller has judged the frame; only that its fixed part is there is tested again, D5, so that nothing is asked of
--- the caller. A good request is never told so (`message_readback`). Definitions and the statement only.
+-- nothing changes. The caller has judged the frame; only that its fixed part is there is tested again, D5, so that nothing is needed of
+-- the caller. A good request never gets it (`message_readback`). Definitions and the statement only.
 use Prim.Native.Nat.{ℕ, _+_}
 use mathlib.Core.Path.{_≡_}
 use mathlib.Core.Bool.{Bool, cond}

@@ -25,15 +25,14 @@ pub enum Replied {
     CutOff,
     // Refusal 3: the buffer is shorter than the reply.
     NoRoom,
-    // The reply stands in the buffer's first octets, so many.
+    // The reply is in the buffer's first octets, so many.
     Octets(usize),
 }
 
 // The octets that are copied at a time. No request is shorter, since all have the PDU's first four octets.
 const BLOCK: usize = 16;
 
-// Copies the block at a place, by way of an array: one load and one store, where octets that go straight from one to the other ask first
-// whether they overlap.
+// Copies the block at a place, by way of an array: one load and one store; a direct copy would first test whether the two overlap.
 fn copy_block(into: &mut [u8], from: &[u8], at: usize)
     requires { ⌜ (at + 16 ≤ length (now into)) × (at + 16 ≤ length (now from)) ⌝ }
     ensures { λ _. ⌜ now (into .exit) ≡ laid at (part at 16 (now (from .entry))) (now (into .entry)) ⌝ }
@@ -43,7 +42,7 @@ fn copy_block(into: &mut [u8], from: &[u8], at: usize)
     copy_octets(into, at, &block);
 }
 
-// Copies the request to the buffer's front, block by block; the last one ends with the request, and may lie over the one before it.
+// Copies the request to the buffer's front, block by block; the last one ends with the request, and may overlap the one before it.
 fn copy_request(into: &mut [u8], request: &[u8])
     requires { ⌜ (16 ≤ length (now request)) × (length (now request) ≤ length (now into)) ⌝ }
     ensures { λ _. ⌜ now (into .exit) ≡ laid 0 (now (request .entry)) (now (into .entry)) ⌝ }

@@ -1,5 +1,5 @@
--- The octets of an LMM and of a DMM. The paper, "What is in a PDU": the table of fixed parts, and the versions sent; "A tick": the LMM and DMM;
--- the standard, figure 9.12-1: LMM's version is 1. Definitions and the statement only.
+-- The octets of an LMM and of a DMM. The paper, "What is in a PDU": the table of fixed parts, and the versions sent; "A tick": the LMM and
+-- DMM; the standard, figure 9.12-1: LMM's version is 1. Definitions and the statement only.
 use Prim.Native.Nat.{ℕ}
 use mathlib.Core.Path.{_≡_}
 use mathlib.Core.List.{List, _++_}
@@ -25,7 +25,7 @@ dmmOctets destination source level stamp =
     ++ stampOctets stamp
     ++ replicate 25 0
 
--- from our own address to the loss peer's, as they lie among the names
+-- from our own address to the loss peer's, as they are among the names
 abbrev pub lmmNamed : List ℕ → ℕ → ℕ → List ℕ
 lmmNamed names level sent = lmmOctets (losspeerNamed names) (ownNamed names) level sent
 

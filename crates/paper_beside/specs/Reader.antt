@@ -1,5 +1,5 @@
--- The reader of TLVs, as the paper's lines: "What is in a PDU". It is given a frame alone and the TLV type that is asked for, and tests 1, D1, D3,
--- D4 and D5. Each line holds its whole condition and its whole outcome. Definitions and the statement only.
+-- The reader of TLVs, as the paper's lines: "What is in a PDU". It is given a frame alone and the TLV type that is asked for, and tests 1,
+-- D1, D3, D4 and D5. Each line holds its whole condition and its whole outcome. Definitions and the statement only.
 use Prim.Native.Nat.{ℕ, _≤_, _<_}
 use mathlib.Core.Path.{_≡_}
 use mathlib.Core.List.{List}
@@ -44,14 +44,14 @@ pub record Offered (f : List ℕ) : Type 0 where
 abbrev pub TlvsOf : List ℕ → List (ℕ × List ℕ) → Type 0
 TlvsOf f ts = Tlvs (drop (startOf (pduOf f)) (pduOf f)) ts
 
--- ── what the reader tells ──
+-- ── what the reader answers ──
 pub data ReaderTells : Type 0 where
   refused : ℕ → ReaderTells
   dropped : ℕ → ReaderTells
   value : List ℕ → ReaderTells
   no-such : ReaderTells
 
--- `ReaderSaid f kind r`: of this frame, asked for the TLV of this type, the paper's reader tells r
+-- `ReaderSaid f kind r`: of this frame, asked for the TLV of this type, the paper's reader answers r
 pub data ReaderSaid (f : List ℕ) (kind : ℕ) : ReaderTells → Type 0 where
   -- 1: the frame's length
   reader-1 : (Long f → ⊥) → ReaderSaid f kind (refused 1)
@@ -63,7 +63,7 @@ pub data ReaderSaid (f : List ℕ) (kind : ℕ) : ReaderTells → Type 0 where
   reader-D3 : OamFrame f → ((least : ℕ) → InTable (opcodeOf (pduOf f)) least → ⊥) → ReaderSaid f kind (dropped 3)
   -- D4: an offset below the opcode's
   reader-D4 : (least : ℕ) → OamFrame f → InTable (opcodeOf (pduOf f)) least → offsetOf (pduOf f) < least → ReaderSaid f kind (dropped 4)
-  -- D5: from the frame's own offset on there is no run of TLVs with an end, whatever stands before the cut
+  -- D5: from the frame's own offset on there is no run of TLVs with an end, whatever is before the cut
   reader-D5 : Offered f → ((ts : List (ℕ × List ℕ)) → TlvsOf f ts → ⊥) → ReaderSaid f kind (dropped 5)
   -- the first TLV of the type, whose value may be empty; or none of it
   reader-value : (ts : List (ℕ × List ℕ)) (v : List ℕ) → Offered f → TlvsOf f ts → firstOf kind ts ≡ some v → ReaderSaid f kind (value v)
@@ -86,7 +86,7 @@ readerTells (answer.Bad b) v = badTells b
 abbrev pub ourReader : List ℕ → ℕ → ReaderTells
 ourReader f kind = readerTells (answerOf f kind) (valueOf f kind)
 
--- whatever the paper says of a frame, R tells
+-- whatever the paper says of a frame, R answers
 pub record FollowsReader (R : List ℕ → ℕ → ReaderTells) : Type 0 where
   pub follows : (f : List ℕ) (kind : ℕ) (r : ReaderTells) → Octets f → ReaderSaid f kind r → R f kind ≡ r
 
@@ -94,7 +94,7 @@ pub record FollowsReader (R : List ℕ → ℕ → ReaderTells) : Type 0 where
 -- follow them answer the same, and one that finds nothing does not follow them
 pub record ReaderFollows : Type 0 where
   pub ours : FollowsReader ourReader
-  -- it says something of every frame, and never two things; so any two that follow it tell the same
+  -- it says something of every frame, and never two things; so any two that follow it answer the same
   pub says : (f : List ℕ) (kind : ℕ) → Octets f → ReaderSaid f kind (ourReader f kind)
   pub agrees : (f : List ℕ) (kind : ℕ) (r q : ReaderTells) → Octets f → ReaderSaid f kind r → ReaderSaid f kind q → r ≡ q
   pub same : (R Q : List ℕ → ℕ → ReaderTells) → FollowsReader R → FollowsReader Q → (f : List ℕ) (kind : ℕ) → Octets f → R f kind ≡ Q f kind

@@ -1,5 +1,5 @@
--- Stored records, as the paper's lines: "Stored records", and refusals 7, 4 and 3. Each line holds its whole condition and its whole outcome, the
--- answer and the buffer. Definitions and the statement only.
+-- Stored records, as the paper's lines: "Stored records", and refusals 7, 4 and 3. Each line holds its whole condition and its whole
+-- outcome, the answer and the buffer. Definitions and the statement only.
 use Prim.Native.Nat.{ℕ, _≤_, _<_}
 use mathlib.Core.Path.{_≡_}
 use mathlib.Core.List.{List, []}
@@ -31,7 +31,7 @@ pub data RecordTells : Type 0 where
   line : LossLine → RecordTells
   written : ℕ → RecordTells
 
--- the answer, and the buffer that was handed over (none for a read)
+-- the answer, and the buffer that was passed in (none for a read)
 pub record RecordLeft : Type 0 where
   pub answer : RecordTells
   pub buffer : List ℕ
@@ -51,7 +51,7 @@ pub data RecordSaid : RecordCall → RecordLeft → Type 0 where
   settings-7-record : (octets : List ℕ) → NoRecord 1 81 octets → RecordSaid (read-settings octets) (leaving (refused 7) [])
   settings-7-rule : (octets : List ℕ) → (Valid (settingsAt octets) → ⊥) → RecordSaid (read-settings octets) (leaving (refused 7) [])
   settings-given : (octets : List ℕ) → IsRecord 1 81 octets → Valid (settingsAt octets) → RecordSaid (read-settings octets) (leaving (settings (settingsAt octets)) [])
-  -- on writing 4 comes before 3; what stands behind the 85 octets stays
+  -- on writing 4 comes before 3; what is behind the 85 octets stays
   settings-4 : (t : Settings) (b : List ℕ) → (Valid t → ⊥) → RecordSaid (write-settings t b) (leaving (refused 4) b)
   settings-3 : (t : Settings) (b : List ℕ) → Valid t → length b < 85 → RecordSaid (write-settings t b) (leaving (refused 3) b)
   settings-written : (t : Settings) (b : List ℕ) → Valid t → 85 ≤ length b → RecordSaid (write-settings t b) (leaving (written 85) (laid 0 (settingsRecord t) b))

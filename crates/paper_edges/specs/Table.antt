@@ -1,4 +1,4 @@
--- The edges that the paper marks P, in its order: each row is a sentence, and `Edges` says that every row holds. Rows of rooms that are
+-- The edges that the paper marks P, in its order: each row is a sentence, and `Edges` says that every row holds. Rows of crates that are
 -- still to come are added with them. Definitions and the statement only.
 use Prim.Native.Nat.{ℕ, _/_, _%_, _^_, _≤_, _<_}
 use mathlib.Core.Path.{_≡_}
@@ -36,7 +36,7 @@ use Rattle.frame_tlvs.specs.Tlvs.{Tlvs}
 
 -- ── the words of the rows ──
 
--- a PDU's first octet says this level and this version, whatever stands behind it
+-- a PDU's first octet says this level and this version, whatever is behind it
 abbrev pub says : ℕ → ℕ → ℕ → Type 0
 says first level version = (rest : List ℕ) → (levelOf (first ∷ rest) ≡ level) × (versionOf (first ∷ rest) ≡ version)
 
@@ -44,7 +44,7 @@ says first level version = (rest : List ℕ) → (levelOf (first ∷ rest) ≡ l
 abbrev pub grows : ℕ → ℕ → ℕ → Type 0
 grows earlier later by = growth (2 ^ 32) earlier later ≡ by
 
--- a cleared session is given two readings: it keeps the first, and is told these losses at the second
+-- a cleared session is given two readings: it keeps the first, and is answered these losses at the second
 abbrev pub loses : Readings → Readings → ℤ → ℤ → Type 0
 loses first second far near = map lossTold (answers afterReading clearedSession (first ∷ second ∷ [])) ≡ Loss.results (pos 0) (pos 0) ∷ Loss.results near far ∷ []
 
@@ -52,12 +52,12 @@ loses first second far near = map lossTold (answers afterReading clearedSession 
 abbrev pub at : ℕ → ℕ → Stamp
 at seconds nanoseconds = record { seconds = seconds; nanoseconds = nanoseconds }
 
--- TxTimeStampf, RxTimeStampf, TxTimeStampb and the receive stamp are told these delays
+-- TxTimeStampf, RxTimeStampf, TxTimeStampb and the receive stamp give these delays
 abbrev pub takes : Stamp → Stamp → Stamp → Stamp → ℤ → ℤ → ℤ → Type 0
 takes txf rxf txb here twoway far near = Delay.delayNumbers txf rxf txb here ≡ Delay.results twoway far near
 
--- a new setting of period code 1, no CCM, and so many ticks with room for ours: conditions are not refused, and tell this of each peer's loss
--- of continuity
+-- a new setting of period code 1, no CCM, and so many ticks with room for ours: conditions are not refused, and answer this of each peer's
+-- loss of continuity
 abbrev pub silent : ℕ → ℕ → Type 0
 silent ticks lossTold = (t : Settings) (buffer : List ℕ) (slot : ℕ) → Valid t → t .period ≡ 1 → 89 ≤ length buffer → slot < t .count → slot < slots
     → (conditionsOf (after (λ s b. tickOf s b .state) (startOf t) (replicate ticks buffer)) .refusal ≡ 0)

@@ -1,5 +1,5 @@
--- Demand 3 in the order's own form, all four readings at once: it holds of every box that meets the demand side by side. Definitions and the
--- statement only.
+-- Demand 3 in the order's own form, all four readings at once: it holds of every box that meets the demand side by side. Definitions and
+-- the statement only.
 use Prim.Native.Nat.{ℕ, _-_}
 use mathlib.Core.Path.{_≡_}
 use mathlib.Core.List.{List, [], _∷_, _++_, map}
@@ -23,7 +23,7 @@ abbrev pub tells : List Counts → List Answer
 tells [] = []
 tells (t ∷ ts) = loss (pos 0) (pos 0) ∷ measurements t ts
 
--- the true counts ts behind the accepted replies: results, both totals and the intervals
+-- the true counts ts of the accepted replies: results, both totals and the intervals
 pub record BothAgree (B : Box) (n : ℕ) (s : State) (cs : List Call) (es : List Event) (ts : List Counts) : Type 0 where
   pub results : said B s cs es ≡ tells ts ++ replicate (length (repliesIn n es) - most) (refused 5)
   pub totals : (d : LossEnd) → totalOf d (run B s cs .session) ≡ total (map (truthOf d) ts)

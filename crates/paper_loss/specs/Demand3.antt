@@ -1,4 +1,5 @@
--- Demand 3 of the order, of any box, over runs of any calls and any length. Its premises are on the calls alone. Definitions and statements only.
+-- Demand 3 of the order, of any box, over runs of any calls and any length. Its premises are on the calls alone. Definitions and statements
+-- only.
 use Prim.Native.Nat.{ℕ, _+_, _-_, _%_, _^_, _≤_}
 use mathlib.Core.Path.{_≡_}
 use mathlib.Core.List.{List, _++_, map}
@@ -68,8 +69,8 @@ pub record Demand3 (B : Box) : Type 0 where
   pub counts : (n m : ℕ) (s : State) (cs : List Call) (es : List Event) → s .received ≡ n % 2 ^ 32 → s .sent ≡ m % 2 ^ 32
       → Each OnWire cs → Each NoSetting cs → Events s cs es
       → (run B s cs .received ≡ (n + receivedIn es) % 2 ^ 32) × (run B s cs .sent ≡ (m + sentIn es) % 2 ^ 32)
-  -- the near side once more, our own count being what was counted: of it nothing is assumed but that fewer than 2^32 frames come in an interval;
-  -- of the peer's, as before, that it neither falls nor grows by 2^32 or more
+  -- the near side once more, our own count being what was counted: of it nothing is assumed but that fewer than 2^32 frames come in an
+  -- interval; of the peer's, as before, that it neither falls nor grows by 2^32 or more
   pub tied : (n : ℕ) (s : State) (cs : List Call) (es : List Event) (xs : List ℕ) → SinceClear n s cs es
       → PeerSent (accepted n es) xs → Neighbours Grows xs → Neighbours FewCounted (take most (oursAt n es))
       → Agrees B near n s cs es (beside xs (take most (oursAt n es)))

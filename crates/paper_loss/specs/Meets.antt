@@ -29,8 +29,8 @@ pub record Whole : Type 0 where
 
 -- ── from any clear on ──
 
--- such a run starts at every clear, whatever calls were before it but a new setting: the same settings judge its calls, and our received count is
--- what was counted
+-- such a run starts at every clear, whatever calls were before it but a new setting: the same settings judge its calls, and our received
+-- count is what was counted
 abbrev pub FromAnyClear : Type 0
 FromAnyClear = (B : Box) → Demand3 B → (n m : ℕ) (s : State) (before : List Call) (fs : List Event) (cs : List Call) (es : List Event)
     → WellFormed s → s .received ≡ n % 2 ^ 32 → s .sent ≡ m % 2 ^ 32
@@ -40,7 +40,7 @@ FromAnyClear = (B : Box) → Demand3 B → (n m : ℕ) (s : State) (before : Lis
 
 -- ── no choice is left ──
 
--- two boxes say the same to every good reply of a run, and hold the same totals and intervals behind it
+-- two boxes say the same to every good reply of a run, and hold the same totals and intervals after it
 pub record Alike (B C : Box) (s : State) (cs : List Call) (es : List Event) : Type 0 where
   pub results : said B s cs es ≡ said C s cs es
   pub totals : (d : LossEnd) → totalOf d (run B s cs .session) ≡ totalOf d (run C s cs .session)

@@ -72,15 +72,15 @@ seen d (told.delays t f n) = silence
 seen d told.done = silence
 seen d (told.standing r) = silence
 
--- what the account says: rule 7 tells 0 at the first reply, which has nothing to measure against; then the loss of each interval
+-- what the account says: rule 7 answers 0 at the first reply, which has nothing to measure against; then the loss of each interval
 abbrev pub accounted : List Truth → List ℤ
 accounted [] = []
 accounted (t ∷ ts) = pos 0 ∷ losses t ts
 
 -- ── the runs that demand 3 is about ──
 
--- since a session was cleared: a well-formed state with a cleared session, our received count being n; any calls, any number of them, but no
--- new setting and no clear
+-- since a session was cleared: a well-formed state with a cleared session, our received count being n; any calls, any number of them, but
+-- no new setting and no clear
 pub record SinceClear (n : ℕ) (s : State) (cs : List Call) (es : List Event) : Type 0 where
   pub well : WellFormed s
   pub cleared : s .session ≡ clearedSession

@@ -1,5 +1,5 @@
--- A run of calls of any box, and what each call of it is to the service counts and to the loss session: by the settings that the run starts with
--- and the call alone, never by what the box brings or answers. Definitions only.
+-- A run of calls of any box, and what each call of it is to the service counts and to the loss session: by the settings that the run starts
+-- with and the call alone, never by what the box brings or answers. Definitions only.
 use Prim.Native.Nat.{ℕ, suc}
 use mathlib.Core.Path.{_≡_}
 use mathlib.Core.List.{List, [], _∷_}

@@ -1,5 +1,5 @@
--- Demand 1 of the order, of any box: each call tests what it is given and answers; a refusal says by its number why, and leaves the state and
--- the buffer as they were. Definitions and the statement only.
+-- Demand 1 of the order, of any box: each call tests what it is given and answers; a refusal says by its number why, and leaves the state
+-- and the buffer as they were. Definitions and the statement only.
 use Prim.Native.Nat.{ℕ}
 use mathlib.Core.Path.{_≡_}
 use mathlib.Core.List.{List}
@@ -20,13 +20,13 @@ use Rattle.paper_loss.specs.Runs.{Each}
 use Rattle.paper_time.specs.Runs.{since}
 
 pub record Demand1 (B : Box) : Type 0 where
-  -- every call that is given a state refuses one that is not well formed with 2, and hands it back the same
+  -- every call that is given a state refuses one that is not well formed with 2, and leaves it as it was
   pub not-well : (s : State) (c : Call) → OnWire c → NoSetting c → (WellFormed s → ⊥) → B s c ≡ leaves (refused 2) s (handed c)
   -- each number exactly where its line holds, and no earlier one of the order does
   pub refuses : (s : State) (c : Call) (n : ℕ) → OnWire c → (B s c .answer ≡ refused n) ↔ Refusal s c n
   -- any refusal, of any call, leaves state and buffer the same
   pub same : (s : State) (c : Call) (n : ℕ) → OnWire c → B s c .answer ≡ refused n → (B s c .state ≡ s) × (B s c .buffer ≡ handed c)
-  -- only a new setting hands something out, and a refused one zeros
+  -- only a new setting returns a state, and a refused one zeros
   pub hands-nothing : (s : State) (c : Call) → OnWire c → NoSetting c → B s c .out ≡ nothing
   pub zeros : (s : State) (t : Settings) → OnWire (new-setting t) → (Valid t → ⊥)
       → (zero : State) × AllZero zero × (B s (new-setting t) ≡ hands-out (refused 4) s zero)

@@ -24,13 +24,14 @@ use Rattle.message_readback.specs.Replies.{Answers}
 use Rattle.paper_loss.specs.Runs.{Each}
 use Rattle.paper_time.specs.Runs.{since}
 
--- a state as it lies in memory: addresses, MEG ID and slots have their lengths, counts have 32 bits
+-- a state that fits in memory: addresses, MEG ID and slots have their lengths, counts have 32 bits
 pub record InMemory (s : State) : Type 0 where
   pub settings : Shaped slots (s .settings)
   pub sent : s .sent < 2 ^ 32
   pub received : s .received < 2 ^ 32
 
--- a CCM was sent by a tick of the state s: it reads back as our settings, and RDI is on exactly where a condition stands after the lowering
+-- a CCM was sent by a tick of the state s: it reads back as our settings, and RDI is on exactly where a condition is active after the
+-- lowering
 pub record CcmSent (s : State) (buffer : List ℕ) : Type 0 where
   pub rdi : ℕ
   pub says : Flag (Stands (lowered s)) rdi
@@ -46,7 +47,7 @@ pub data ReplyBack (s : State) (a : Arrival) (f : List ℕ) : Type 0 where
 
 pub record Demand2 (B : Box) : Type 0 where
   pub follows : Follows B
-  -- what is written reads back as the fields of the state it was sent from; along a run since a setting every state lies in memory
+  -- what is written reads back as the fields of the state it was sent from; along a run since a setting every state fits in memory
   pub in-memory : (s : State) (t : Settings) (cs : List Call) → Settable t → Each OnWire cs → InMemory (since B s t cs)
   pub ccm : (s : State) (b : List ℕ) (n : ℕ) → InMemory s → B s (tick b) .answer ≡ written n → (n ≡ 89) × CcmSent s (B s (tick b) .buffer)
   pub lmm : (s : State) (b : List ℕ) (n : ℕ) → InMemory s → B s (send-LMM b) .answer ≡ written n

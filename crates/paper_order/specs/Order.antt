@@ -23,7 +23,7 @@ pub record Order (B : Box) : Type 0 where
 pub record Met : Type 1 where
   pub every : (B : Box) → Follows B → Order B
   pub our-box : Order ours
-  -- the paper leaves no call without a word and no choice; the numbers that a caller is told are those of the paper's answers
+  -- the paper says something of every call and leaves no choice; the numbers that a caller is given are those of the paper's answers
   pub paper : Promises
   pub told : ToldAlike
   -- the calls that are given no state of a box, those on stored records, the reader and the lent session, keep demands 1 and 2 beside it

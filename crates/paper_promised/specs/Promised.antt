@@ -1,5 +1,5 @@
--- What holds of every box that follows the paper: no call is without a word, refusals by the table, what refusals and drops leave, that a state
--- stays well formed, and that OAM frames are never counted. Definitions and the statements only.
+-- What holds of every box that follows the paper: the paper says something of every call, refusals by the table, what refusals and drops
+-- leave, that a state stays well formed, and that OAM frames are never counted. Definitions and the statements only.
 use Prim.Native.Nat.{ℕ}
 use mathlib.Core.Path.{_≡_}
 use mathlib.Core.Logic.{_↔_}
@@ -26,7 +26,7 @@ pub record Promised (B : Box) : Type 0 where
   pub refuses : (s : State) (c : Call) (n : ℕ) → OnWire c → (B s c .answer ≡ refused n) ↔ Refusal s c n
   -- a refused call leaves state and buffer the same, whatever call it is and whatever they held
   pub left : (s : State) (c : Call) (n : ℕ) → OnWire c → B s c .answer ≡ refused n → (B s c .state ≡ s) × (B s c .buffer ≡ handed c)
-  -- only a new setting hands something out; a refused one hands out the all-zero state
+  -- only a new setting returns a state; a refused one returns the all-zero state
   pub hands-nothing : (s : State) (c : Call) → OnWire c → NoSetting c → B s c .out ≡ nothing
   pub zeros : (s : State) (t : Settings) → OnWire (new-setting t) → (Valid t → ⊥)
       → (zero : State) × AllZero zero × (B s (new-setting t) ≡ hands-out (refused 4) s zero)
@@ -62,5 +62,5 @@ pub record ShutOut : Type 0 where
       → ((s : State) (c : Call) → WellFormed s → NoSetting c → (n : ℕ) × (B s c .answer ≡ refused n)) → ⊥
   -- one that gives every other call the same answer, whichever it is
   pub fixed : (B : Box) (x : Answer) → Follows B → ((s : State) (c : Call) → WellFormed s → NoSetting c → B s c .answer ≡ x) → ⊥
-  -- one that touches nothing at any other call
+  -- one that changes nothing at any other call
   pub touches-nothing : (B : Box) → Follows B → ((s : State) (c : Call) → WellFormed s → NoSetting c → B s c .state ≡ s) → ⊥

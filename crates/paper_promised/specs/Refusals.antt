@@ -45,7 +45,7 @@ pub data Refusal (s : State) : Call → ℕ → Type 0 where
 pub data Remembered (s : State) : Call → Type 0 where
   lower-ccm : (a : Arrival) → Oam s a → a .side ≡ active → level a < s .settings .level → GoodCcm s a → Remembered s (frame a)
 
--- the buffer that a call hands over
+-- the buffer that a call is passed
 abbrev pub handed : Call → List ℕ
 handed (new-setting t) = []
 handed (frame a) = a .buffer

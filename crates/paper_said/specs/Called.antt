@@ -22,7 +22,7 @@ use Rattle.paper_said.specs.Made.{ccmFrom, lmmFrom, dmmFrom}
 
 -- `Called s call o`: to this call in state s, the paper's outcome is o
 pub data Called (s : State) : Call → Outcome → Type 0 where
-  -- ── a clear starts the loss session anew, and touches nothing else ──
+  -- ── a clear starts the loss session again, and changes nothing else ──
   clear-2 : (WellFormed s → ⊥) → Called s clear (leaves (refused 2) s [])
   clears : WellFormed s → Called s clear (leaves done (withSession clearedSession s) [])
   -- ── a tick: timers run down, and the last of a period sends a CCM ──
@@ -42,9 +42,9 @@ pub data Called (s : State) : Call → Outcome → Type 0 where
   dmm-3 : (x : Stamp) (b : List ℕ) → WellFormed s → StampGood x → length b < 51 → Called s (send-DMM x b) (leaves (refused 3) s b)
   dmm-sends : (x : Stamp) (b : List ℕ) → WellFormed s → StampGood x → 51 ≤ length b → Called s (send-DMM x b) (leaves (written 51) s (laid 0 (dmmFrom s x) b))
   -- ── a new setting, whatever state there was before ──
-  -- 4: an all-zero state is handed out, and what lies with the caller stays
+  -- 4: an all-zero state is returned, and the caller's own stays
   setting-4 : (t : Settings) (zero : State) → (Valid t → ⊥) → AllZero zero → Called s (new-setting t) (hands-out (refused 4) s zero)
   setting-starts : (t : Settings) (fresh : State) → Valid t → Fresh t fresh → Called s (new-setting t) (hands-out done fresh fresh)
-  -- ── conditions: what stands, and no change ──
+  -- ── conditions: what is active, and no change ──
   conditions-2 : (WellFormed s → ⊥) → Called s conditions (leaves (refused 2) s [])
   conditions-show : (r : Raised) → WellFormed s → Shows s r → Called s conditions (leaves (standing r) s [])

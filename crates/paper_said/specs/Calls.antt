@@ -9,7 +9,7 @@ use Rattle.state_view.specs.State.{State}
 use Rattle.base_stamp.specs.Stamps.{Wire}
 use Rattle.base_stamp.specs.declared.Stamp.{Stamp}
 
--- where a frame comes from: active is the fibre, passive the equipment behind the box
+-- where a frame comes from: active is the link, passive the equipment on our own end
 pub data ArrivalSide : Type 0 where
   active : ArrivalSide
   passive : ArrivalSide
@@ -31,7 +31,7 @@ pub data Call : Type 0 where
   send-DMM : Stamp → List ℕ → Call
   conditions : Call
 
--- what stands, 1 or 0: for each slot loss of continuity and RDI, and the six others
+-- what is active, 1 or 0: for each slot loss of continuity and RDI, and the six others
 pub record Raised : Type 0 where
   pub lost : List ℕ
   pub rdi : List ℕ
@@ -49,7 +49,7 @@ pub data Answer : Type 0 where
   -- a frame passes, or is taken in
   passed : Answer
   taken : Answer
-  -- a message of so many octets stands in the buffer
+  -- a message of so many octets is in the buffer
   written : ℕ → Answer
   -- near and far loss
   loss : ℤ → ℤ → Answer
@@ -60,13 +60,13 @@ pub data Answer : Type 0 where
   done : Answer
   standing : Raised → Answer
 
--- what a call hands out by value: of a new setting a state, of every other call nothing
+-- what a call returns by value beside its answer: of a new setting a state, of every other call nothing
 pub data HandedOut : Type 0 where
   nothing : HandedOut
   a-state : State → HandedOut
 
--- all that a call leaves: the answer; the state that lies with the caller afterwards; the buffer that was handed over (none for a call
--- without one); what it hands out
+-- all that a call leaves: the answer; the state that the caller holds afterwards; the buffer that was passed in (none for a call without
+-- one); what it returns
 pub record Outcome : Type 0 where
   pub answer : Answer
   pub state : State
@@ -80,7 +80,7 @@ leaves answer state buffer = record { answer = answer; state = state; buffer = b
 abbrev pub hands-out : Answer → State → State → Outcome
 hands-out answer state out = record { answer = answer; state = state; buffer = []; out = a-state out }
 
--- ── what a call brings has the width that it is handed over in ──
+-- ── what a call brings has the width that it is passed in with ──
 
 -- settings have the lengths of their arrays, and octets are below 256
 pub record FromArrays (t : Settings) : Type 0 where

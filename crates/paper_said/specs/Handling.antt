@@ -1,5 +1,5 @@
--- What the paper says of a frame that is handled: rules 5 to 8, and refusals 3 and 5. A line for each sentence that decides something, as in
--- Judged.antt. Definitions only.
+-- What the paper says of a frame that is handled: rules 5 to 8, and refusals 3 and 5. A line for each sentence that decides something, as
+-- in Judged.antt. Definitions only.
 use Prim.Native.Nat.{ℕ, _≤_, _<_}
 use mathlib.Core.Path.{_≡_}
 use mathlib.Core.List.{List, [], _∷_}
@@ -47,7 +47,7 @@ pub data Handling (s : State) : Arrival → Outcome → Type 0 where
   frame-3 : (a : Arrival) (reply : List ℕ) → OwnLevel s a → Sound s a → Reply s a reply → length (a .buffer) < length reply
       → Handling s a (leaves (refused 3) s (a .buffer))
   -- ── rule 7: an LMR ──
-  -- nothing to measure against yet: it is kept, and both losses are told as 0
+  -- nothing to measure against yet: it is kept, and both losses are answered as 0
   rule-7-first : (a : Arrival) → LossReply s a → s .session .kept ≡ 0
       → Handling s a (leaves (loss (pos 0) (pos 0)) (withSession (keptFirst (s .session) (reading s a)) s) (a .buffer))
   -- the losses since the reading before it

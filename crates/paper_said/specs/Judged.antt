@@ -1,6 +1,6 @@
 -- What the paper says of a frame until it is known to be ours: the refusals that come before its rules, then rules 1 to 4. A line for each
--- sentence that decides something, in the paper's order; docs/TRACE.md has the sentence for each line. Each holds its whole condition, so none
--- leans on the line before it, and its whole outcome: the answer, the state and the buffer. Definitions only.
+-- sentence that decides something, in the paper's order; docs/TRACE.md has the sentence for each line. Each holds its whole condition, so
+-- none leans on the line before it, and its whole outcome: the answer, the state and the buffer. Definitions only.
 use Prim.Native.Nat.{ℕ, _≤_, _<_, _^_, _+_, _%_}
 use mathlib.Core.Path.{_≡_}
 use mathlib.Core.List.{[], _∷_}

@@ -1,5 +1,5 @@
--- What the box makes: the messages that it sends and the replies that it gives (rule 6, the tick, the senders), and what a loss reply is made into
--- (rule 7). Definitions only.
+-- What the box makes: the messages that it sends and the replies that it gives (rule 6, the tick, the senders), and what a loss reply is
+-- made into (rule 7). Definitions only.
 use Prim.Native.Nat.{ℕ, _+_}
 use mathlib.Core.Path.{_≡_}
 use mathlib.Core.List.{List}

@@ -1,5 +1,5 @@
--- Our box, made of the very definitions that the contracts of its functions name; and that it follows the paper. Definitions and the statement
--- only.
+-- Our box, made of the very definitions that the contracts of its functions name; and that it follows the paper. Definitions and the
+-- statement only.
 use mathlib.Core.Path.{_≡_}
 use mathlib.Core.Bool.{cond}
 use mathlib.Core.List.{[]}

@@ -1,5 +1,5 @@
--- What the paper says of every call: the answer and all that is left after it. Three pages, each a list of lines in the paper's order: a frame until it
--- is known to be ours, a frame that is handled, and every other call. Definitions only.
+-- What the paper says of every call: the answer and all that is left after it. Three pages, each a list of lines in the paper's order: a
+-- frame until it is known to be ours, a frame that is handled, and every other call. Definitions only.
 use Rattle.state_view.specs.State.{State}
 use Rattle.paper_said.specs.Calls.{Arrival, Call, frame, Outcome}
 use Rattle.paper_said.specs.Judged.{Judged}

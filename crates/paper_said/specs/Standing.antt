@@ -1,4 +1,4 @@
--- What stands in a state, and what conditions show of it. The paper, "A tick". Conditions only.
+-- What is active in a state, and what conditions show of it. The paper, "A tick". Conditions only.
 use Prim.Native.Nat.{ℕ, _<_}
 use mathlib.Core.Path.{_≡_}
 use lib.ListN.{length, getD}
@@ -6,7 +6,7 @@ use Rattle.state_settings.specs.Settings.{slots}
 use Rattle.state_view.specs.State.{State}
 use Rattle.paper_said.specs.Calls.{Raised}
 
--- a number is 1 where something stands and 0 where it does not
+-- a number is 1 where something is active and 0 where it does not
 pub data Flag (P : Type 0) : ℕ → Type 0 where
   on : P → Flag P 1
   off : (P → ⊥) → Flag P 0

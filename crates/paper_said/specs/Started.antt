@@ -1,4 +1,4 @@
--- Which settings are taken, what a new setting starts with, and what a refused one hands out. The paper, "A new setting takes no old
+-- Which settings are taken, what a new setting starts with, and what a refused one returns. The paper, "A new setting takes no old
 -- state", and refusal 4. Conditions only.
 use Prim.Native.Nat.{ℕ, _≤_, _<_}
 use mathlib.Core.Path.{_≡_}
@@ -10,7 +10,7 @@ use Rattle.loss_session.specs.Session.{clearedSession}
 use Rattle.state_view.specs.State.{State}
 use Rattle.paper_said.specs.Calls.{new-setting, OnWire}
 
--- settings that are taken: of the lengths in which they are handed over, and valid
+-- settings that are taken: of the lengths in which they are passed in, and valid
 pub record Settable (t : Settings) : Type 0 where
   pub handed : OnWire (new-setting t)
   pub valid : Valid t
@@ -33,7 +33,7 @@ pub record Fresh (t : Settings) (s : State) : Type 0 where
   pub received : s .received ≡ 0
   pub session : s .session ≡ clearedSession
 
--- what a refused setting hands out: zeros everywhere
+-- what a refused setting returns: zeros everywhere
 pub record NoSettings (t : Settings) : Type 0 where
   pub level : t .level ≡ 0
   pub mep : t .mep ≡ 0

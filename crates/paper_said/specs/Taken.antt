@@ -1,5 +1,5 @@
--- The messages that are taken in: CCMs of our level and whom they come from (rule 5), loss replies (rule 7), delay replies and their stamps (rule
--- 8). Conditions only.
+-- The messages that are taken in: CCMs of our level and whom they come from (rule 5), loss replies (rule 7), delay replies and their stamps
+-- (rule 8). Conditions only.
 use Prim.Native.Nat.{ℕ, _<_, _^_}
 use mathlib.Core.Path.{_≡_}
 use lib.IntN.{ℤ}

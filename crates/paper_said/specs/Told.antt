@@ -1,5 +1,5 @@
--- The numbers that a caller is told are those of the paper's answer: what each function's `told` says agrees with how its answer is held against
--- the paper. Definitions and the statement only.
+-- The numbers that a caller is given are those of the paper's answer: what each function's `told` says agrees with how its answer is held
+-- against the paper. Definitions and the statement only.
 use Prim.Native.Nat.{ℕ}
 use mathlib.Core.Path.{_≡_}
 use lib.IntN.{ℤ, pos}
@@ -43,7 +43,7 @@ answerNumbers (delays t f n) = record { refusal = 0; drop = 0; length = 0; near 
 answerNumbers done = counted 0 0 0
 answerNumbers (standing r) = counted 0 0 0
 
--- what a frame is told, in these words; but for what was done, which tells a first reading from an interval without loss
+-- what a frame is answered, in these words; but for what was done, which distinguishes a first reading from an interval without loss
 abbrev pub frameAsNumbers : FrameTold → Numbers
 frameAsNumbers t = record {
   refusal = t .refusal;

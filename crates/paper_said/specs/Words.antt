@@ -32,7 +32,7 @@ abbrev pub settingAnswer : SettingAnswer → Answer
 settingAnswer setting.Invalid = refused 4
 settingAnswer setting.Set = done
 
--- the state that a caller holds after a new setting: what is handed out, or, refused, what there was before
+-- the state that a caller holds after a new setting: what is returned, or, refused, what there was before
 abbrev pub takenOver : State → ℕ → State → State
 takenOver before refusal out = cond (eqb refusal 0) out before
 

@@ -17,7 +17,7 @@ Due t k = ticksOf (t .period) ∣ k
 abbrev pub Room : Settings → ℕ → List ℕ → Type 0
 Room t k b = Due t k → 89 ≤ length b
 
--- a run that begins k ticks after the setting t: any calls, each of the width in which it is handed over, each tick with the room that it
+-- a run that begins k ticks after the setting t: any calls, each of the width in which it is passed in, each tick with the room that it
 -- needs, and every further setting one that is refused
 unfoldable pub Fits : Settings → ℕ → List Call → Type 0
 Fits t k [] = Unit {0}

@@ -1,5 +1,5 @@
--- Time, of any box: what its ticks and its conditions answer over runs of any calls since a setting. The paper, "Frames, rule by rule", last
--- paragraph, and "Numbers" for periods and hold times. Only answers are read. Definitions and the statements only.
+-- Time, of any box: what its ticks and its conditions answer over runs of any calls since a setting. The paper, "Frames, rule by rule",
+-- last paragraph, and "Numbers" for periods and hold times. Only answers are read. Definitions and the statements only.
 use Prim.Native.Nat.{ℕ, suc, _≤_, _<_}
 use mathlib.Core.Path.{_≡_}
 use mathlib.Core.List.{List, _∷_, _++_}
@@ -32,11 +32,11 @@ shown (of unexpected-period) r = r .unexpected-period
 shown (of ais) r = r .ais
 shown (of lck) r = r .lck
 
--- conditions are told, and this one stands exactly where P holds
+-- conditions are answered, and this one is active exactly where P holds
 pub data Told (x : Timer) (P : Type 0) : Answer → Type 0 where
   told : (r : Raised) → Flag P (shown x r) → Told x P (standing r)
 
--- n ticks after its timer was set to h: a peer is lost once h ticks have passed, any other condition stands while fewer have
+-- n ticks after its timer was set to h: a peer is lost once h ticks have passed, any other condition is active while fewer have
 abbrev pub Stands : Timer → ℕ → ℕ → Type 0
 Stands (peer k) h n = h ≤ n
 Stands (of c) h n = n < h
@@ -67,10 +67,10 @@ pub record Timely : Type 0 where
   -- every box that follows the paper is in time, ours too
   pub every : (B : Box) → Follows B → Time B
   pub our-box : Time ours
-  -- `never` and `last` leave no run out: whether a call sets a timer can always be told
+  -- `never` and `last` leave no run out: whether a call sets a timer can always be decided
   pub all : (t : Settings) (x : Timer) (cs : List Call) → Valid t → Each OnWire cs → Used t x → LastSet t x cs
 
--- both tell conditions, and the same of this timer's
+-- both answer conditions, and the same of this timer's
 pub data Alike (x : Timer) : Answer → Answer → Type 0 where
   alike : (r q : Raised) → shown x r ≡ shown x q → Alike x (standing r) (standing q)
 

@@ -1,5 +1,5 @@
--- The timers behind the conditions, and which call sets which of them: the paper's frame rules 3 and 5, asked of the settings and the call
--- alone. No box is asked, and no state that a box left. Definitions only.
+-- The timers of the conditions, and which call sets which of them: the paper's frame rules 3 and 5, read from the settings and the call
+-- alone, and from no box and no state that a box left. Definitions only.
 use Prim.Native.Nat.{ℕ, _<_}
 use mathlib.Core.Path.{_≡_}
 use mathlib.Core.List.{[], _∷_}
@@ -13,7 +13,7 @@ use Rattle.paper_said.specs.Cases.{pdu, opcode, level, OneOf, Oam, OwnLevel}
 use Rattle.paper_said.specs.Drops.{Sound, code, GoodCcm}
 use Rattle.paper_said.specs.Taken.{PeerAt, OwnCcm, FromPeer}
 
--- the six conditions that stand while their timer runs
+-- the six conditions that are active while their timer runs
 pub data Condition : Type 0 where
   mismerge : Condition
   unexpected-level : Condition
@@ -37,8 +37,8 @@ abbrev pub atStart : Settings → Timer → ℕ
 atStart t (peer k) = holdOf (t .period)
 atStart t (of c) = 0
 
--- the frame rules read nothing of a state but its settings, and whether it is well formed: they are asked of the state that the setting starts
--- with, which the paper gives
+-- the frame rules read nothing of a state but its settings, and whether it is well formed: they are asked of the state that the setting
+-- starts with, which the paper gives
 abbrev pub asked : Settings → State
 asked = startOf
 

@@ -17,7 +17,7 @@ use Rattle.paper_time.specs.Time.{Time}
 abbrev pub sooner : State → State
 sooner s = put next (s .next - 1) s
 
--- ours, but a setting that is taken starts with a tick less than a period to run: that state it leaves, and that it hands out
+-- ours, but a setting that is taken starts with a tick less than a period to run: that state it leaves, and that it returns
 abbrev pub early : Box
 early s (new-setting t) = cond (valid t) (hands-out done (sooner (startOf t)) (sooner (startOf t))) (ours s (new-setting t))
 early s (frame a) = ours s (frame a)
@@ -35,5 +35,5 @@ pub record OutOfTime : Type 0 where
   pub refuses-ticks : (B : Box) → ((s : State) (b : List ℕ) → (n : ℕ) × (B s (tick b) .answer ≡ refused n)) → Time B → ⊥
   -- one that refuses every tick without room for a CCM, also where none is due
   pub wants-room : (B : Box) → ((s : State) (b : List ℕ) → length b < 89 → (n : ℕ) × (B s (tick b) .answer ≡ refused n)) → Time B → ⊥
-  -- one that touches nothing at any call but a new setting, whatever it answers
+  -- one that changes nothing at any call but a new setting, whatever it answers
   pub touches-nothing : (B : Box) → ((s : State) (c : Call) → NoSetting c → B s c .state ≡ s) → Time B → ⊥

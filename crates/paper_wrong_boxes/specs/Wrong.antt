@@ -1,5 +1,5 @@
--- Boxes that get it wrong, each of them ours but for one thing. proofs/Refuted.antt shows of each, by a run that is written out, that it does
--- not meet demand 3. Definitions and the statement only.
+-- Boxes that get it wrong, each of them ours but for one thing. proofs/Refuted.antt shows of each, by a run that is written out, that it
+-- does not meet demand 3. Definitions and the statement only.
 use Prim.Native.Nat.{ℕ, _-_}
 use mathlib.Core.Bool.{Bool, true, false, cond}
 use mathlib.Core.List.{List, [], _∷_, _++_}
@@ -14,7 +14,7 @@ use Rattle.paper_said.specs.Calls.{new-setting, frame, tick, clear, send-LMM, s
 use Rattle.paper_said.specs.Ours.{ours}
 use Rattle.paper_loss.specs.Demand3.{Demand3}
 
--- an outcome in place of another where that one tells a loss
+-- an outcome in place of another where that one answers a loss
 abbrev instead : (ℤ → ℤ → Outcome) → Outcome → Answer → Outcome
 instead f o (loss n g) = f n g
 instead f o (refused n) = o
@@ -45,7 +45,7 @@ numbered k x = record { kept = x .kept; intervals = k; last = x .last; near = x 
 abbrev pub invents : Box
 invents s c = with-state (withSession (numbered 7 (ours s c .state .session)) (ours s c .state)) (ours s c)
 
--- counts every second frame that is received: a ninth timer stands while one is not counted
+-- counts every second frame that is received: a ninth timer is kept while one is not counted
 abbrev pub timed : List ℕ → State → State
 timed timers s = withSlots timers (s .rdi) s
 
@@ -59,7 +59,7 @@ halved s o = cond (eqb (o .state .received) (s .received)) o (second s o (eqb (l
 abbrev pub halves : Box
 halves s c = halved s (ours s c)
 
--- tells a loss without its sign, in 32 bits: -1 is 4,294,967,295
+-- answers a loss without its sign, in 32 bits: -1 is 4,294,967,295
 abbrev unsigned : ℤ → ℤ
 unsigned (pos n) = pos n
 unsigned (negsuc n) = pos (4294967295 - n)

@@ -23,7 +23,8 @@ dropOf TooLarge = 8
 abbrev pub absent : ℤ
 absent = pos 0
 
--- refusal, drop, what was done (a number of ours, 0 beside a refusal or a drop), length, near and far loss, two-way delay, one-way far and near
+-- refusal, drop, what was done (a number of ours, 0 beside a refusal or a drop), length, near and far loss, two-way delay, one-way far and
+-- near
 abbrev pub tellFrame : ℕ → ℕ → ℕ → ℕ → ℤ → ℤ → ℤ → ℤ → ℤ → FrameTold
 tellFrame refusal drop done length near far twoway onewayfar onewaynear = record {
   refusal = refusal;
@@ -60,7 +61,7 @@ frameTold (AllWays twoway far near) = tellFrame 0 0 7 0 absent absent twoway far
 
 -- no two answers have the same numbers; beside a refusal, and beside a drop, every other value is 0
 pub record FrameNumbers : Type 0 where
-  -- no two answers are told alike
+  -- no two answers have the same numbers
   pub apart : (a b : FrameAnswer) → frameTold a ≡ frameTold b → a ≡ b
   -- beside a refusal, and beside a drop, every other value is 0
   pub bare-refusal : (a : FrameAnswer) → (frameTold a .refusal ≡ 0 → ⊥) → frameTold a ≡ refused (frameTold a .refusal)

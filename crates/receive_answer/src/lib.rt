@@ -1,6 +1,6 @@
 // What a frame is answered: a case for each line of the paper's tables, and the same in the paper's numbers.
-// What was done has a number of ours, 1 to 7, beside the paper's refusals, drops and values: these alone do not tell a frame that passes
-// from one that is taken in, nor a first reading from an interval without loss.
+// What was done has a number of ours, 1 to 7, beside the paper's refusals, drops and values: these alone do not distinguish a frame that
+// passes from one that is taken in, nor a first reading from an interval without loss.
 ghost use mathlib.Core.Path.{_≡_};
 ghost use Rattle.receive_answer.specs.Told.{dropOf, absent, tellFrame, frameTold};
 
@@ -40,7 +40,7 @@ pub enum FrameAnswer {
     Passed,
     // A CCM, AIS or LCK, taken in.
     Taken,
-    // A reply of so many octets stands in the buffer.
+    // A reply of so many octets is in the buffer.
     Replied(usize),
     // A loss reply that is the first after a clear: it is only kept.
     First,
@@ -67,8 +67,8 @@ pub struct FrameTold {
     pub onewaynear: i64,
 }
 
-// What was done, in numbers of our own: the frame passes, is taken in, is answered, is kept as a first reading, gives losses, a two-way delay,
-// or all three delays. So a caller tells a first reading from an interval without loss.
+// What was done, in numbers of our own: the frame passes, is taken in, is answered, is kept as a first reading, gives losses, a two-way
+// delay, or all three delays. So a caller can tell a first reading from an interval without loss.
 pub const PASSED: u32 = 1;
 
 pub const TAKEN: u32 = 2;
@@ -99,7 +99,7 @@ fn number_of(drop: Drop) -> u32
     }
 }
 
-// What is told without a loss or a delay.
+// The numbers of an answer without a loss or a delay.
 fn plain(refusal: u32, drop: u32, done: u32, length: usize) -> FrameTold
     ensures { λ r. ⌜ r ≡ tellFrame refusal drop done length absent absent absent absent absent ⌝ }
 {
@@ -116,7 +116,7 @@ fn plain(refusal: u32, drop: u32, done: u32, length: usize) -> FrameTold
     }
 }
 
-// What is told of losses.
+// The numbers of an answer with losses.
 fn lost(near: i64, far: i64) -> FrameTold
     ensures { λ r. ⌜ r ≡ tellFrame 0 0 5 0 near far absent absent absent ⌝ }
 {
@@ -133,7 +133,7 @@ fn lost(near: i64, far: i64) -> FrameTold
     }
 }
 
-// What is told of delays.
+// The numbers of an answer with delays.
 fn delayed(done: u32, twoway: i64, far: i64, near: i64) -> FrameTold
     ensures { λ r. ⌜ r ≡ tellFrame 0 0 done 0 absent absent twoway far near ⌝ }
 {

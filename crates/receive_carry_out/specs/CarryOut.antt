@@ -1,5 +1,5 @@
 -- What is left where a decision about a frame is carried out: the answer, the state, the buffer. The paper, rules 3 to 8: a drop and a pass
--- change nothing; a reply stands in the buffer, and refusal 3 touches nothing. Definitions only.
+-- change nothing; a reply is in the buffer, and refusal 3 changes nothing. Definitions only.
 use Prim.Native.Nat.{ℕ}
 use mathlib.Core.List.{List}
 use Rattle.base_laws.specs.Ended.{Ended, ended}

@@ -50,7 +50,7 @@ pub fn carry_out(
         carriedOut (before set names ids timers rdi run totals) (now (frame .entry)) receive transmit (now (out .entry)) decision ⌝ }
     ensures { λ _. ⌜ Whole (now (run .exit)) (now (totals .exit)) ⌝ }
 {
-    // a view of an array tells its length, and costs nothing
+    // a view of an array has its length, and costs nothing
     let _words: &[u32] = run;
     let _both: &[i64] = totals;
     match decision {

@@ -1,6 +1,6 @@
--- What a change leaves, and what the frame is answered. The paper, rule 1: a service frame adds one to its side's count, wrapping to 0 after
--- 4,294,967,295; rule 3: D2, and the unexpected-level timer is set; rule 5; rule 7: readings are the reply's three counts and our received
--- count. Definitions only.
+-- What a change leaves, and what the frame is answered. The paper, rule 1: a service frame adds one to its side's count, wrapping to 0
+-- after 4,294,967,295; rule 3: D2, and the unexpected-level timer is set; rule 5; rule 7: readings are the reply's three counts and our
+-- received count. Definitions only.
 use Prim.Native.Nat.{ℕ, _+_, _%_, _^_}
 use mathlib.Core.List.{[]}
 use Rattle.base_laws.specs.Ended.{Ended, ended}

@@ -1,4 +1,4 @@
-// What a frame changes in a state, where it lies: the one place where a frame changes a state. Rules 1, 3, 5 and 7 of the paper.
+// What a frame changes in a state, in its arrays: the one place where a frame changes a state. Rules 1, 3, 5 and 7 of the paper.
 // Of a loss reply, in this order: refusal 2 where the session is not well formed, which `receive_frame` has ruled out by then; 5 where
 // the reply would start interval 1,000,000,001. Neither changes anything.
 ghost use mathlib.Core.List.{[]};
@@ -34,7 +34,7 @@ pub enum Change {
     Received,
     // Rule 3: a CCM of a lower level.
     UnexpectedLevel,
-    // Rule 5: what a CCM, AIS or LCK of our level tells.
+    // Rule 5: what a CCM, AIS or LCK of our level says.
     Told(Signal),
     // Rule 7: the counts of a loss reply.
     Reading { txf: u32, rxf: u32, txb: u32 },
@@ -105,7 +105,7 @@ pub fn apply(
         applied (before set names ids timers rdi run totals) change ⌝ }
     ensures { λ _. ⌜ Whole (now (run .exit)) (now (totals .exit)) ⌝ }
 {
-    // a view of an array tells its length, and costs nothing
+    // a view of an array has its length, and costs nothing
     let _words: &[u32] = run;
     let _both: &[i64] = totals;
     match change {

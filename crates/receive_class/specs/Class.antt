@@ -1,5 +1,5 @@
--- What a frame is to a box of a level. The paper, rules 1 to 4: service frames, D1, levels above ours, the passive side, lower levels, our own.
--- Definitions and the statement only.
+-- What a frame is to a box of a level. The paper, rules 1 to 4: service frames, D1, levels above ours, the passive side, lower levels, our
+-- own. Definitions and the statement only.
 use Prim.Native.Nat.{ℕ, _≤_, _<_}
 use mathlib.Core.Path.{_≡_}
 use mathlib.Core.Bool.{Bool, true, not, cond}

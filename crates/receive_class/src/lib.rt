@@ -8,7 +8,7 @@ use frame_head::HEAD_LENGTH;
 use frame_head::is_oam;
 use frame_head::level;
 
-// Where a frame comes from: the fibre, or the equipment behind the box.
+// Where a frame comes from: the link, or the equipment on our own end.
 pub enum Side {
     Active,
     Passive,

@@ -1,5 +1,5 @@
--- A frame of our level is looked at once. The paper, rule 4: D3, D4, D5, D6, D7 in this order, then the handler. Here they are tests on the one
--- row of the opcode and on the PDU; `Decide` has them by what the reader says of the frame. Definitions and the statement only.
+-- A frame of our level is looked at once. The paper, rule 4: D3, D4, D5, D6, D7 in this order, then the handler. Here they are tests on the
+-- one row of the opcode and on the PDU; `Decide` has them by what the reader says of the frame. Definitions and the statement only.
 use Prim.Native.Nat.{ℕ, _+_, _≤_}
 use mathlib.Core.Path.{_≡_}
 use mathlib.Core.Bool.{true, not}

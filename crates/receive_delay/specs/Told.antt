@@ -32,7 +32,7 @@ delayTold TooLarge = dropped 8
 delayTold (TwoWay t) = results t (pos 0) (pos 0)
 delayTold (AllWays t f n) = results t f n
 
--- what a reply is told, in the paper's numbers alone
+-- what a reply is answered, in the paper's numbers alone
 unfoldable pub delayNumbers : Stamp → Stamp → Stamp → Stamp → DelayTold
 delayNumbers txf rxf txb here =
     choose (

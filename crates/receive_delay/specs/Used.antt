@@ -9,7 +9,7 @@ use Rattle.base_stamp.specs.Stamps.{good, given}
 abbrev pub instant : Stamp → ℕ
 instant s = s .seconds * 1000000000 + s .nanoseconds
 
--- from one stamp to another, sign included: the one difference behind every delay
+-- from one stamp to another, sign included: the one difference for every delay
 abbrev pub between : Stamp → Stamp → ℤ
 between from to = subℕ (instant to) (instant from)
 

@@ -32,7 +32,7 @@ fn widened(s: Stamp) -> u64
     (s.seconds as u64) * 1000000000 + (s.nanoseconds as u64)
 }
 
-// From one stamp to another, sign included: the one rule behind all delays.
+// From one stamp to another, sign included: the one rule for all delays.
 fn difference(from: Stamp, to: Stamp) -> i64
     ensures { λ r. ⌜ (r ≡ between from to) × (natAbs r ≤ 4294967299294967295) ⌝ }
 {

@@ -36,7 +36,8 @@ fn good_source(losspeer: &[u8], only: bool, request: bool, source: &[u8]) -> boo
 }
 
 // Whether a frame whose opcode has this row, of this level and with these addresses, is for a box of these addresses, so not D6: our
-// address, or the multicast address of the frame's level where the opcode may go there; no request from a group; no LMR but the loss peer's.
+// address, or the multicast address of the frame's level where the opcode may go there; no request from a group, and no LMR but the loss
+// peer's.
 pub fn is_for_us(
     own: &[u8],
     losspeer: &[u8],

@@ -1,4 +1,4 @@
--- What a frame leaves: the answer, the state, the buffer. The paper, "Refusals": the order is 2, 1, 6, the frame rules, then 3 or 5; a refused
+-- What a frame leaves: the answer, the state, the buffer. The paper, "Refusals": in order 2, 1, 6, the frame rules, then 3 or 5; a refused
 -- call leaves state and buffers unchanged. Definitions only.
 use Prim.Native.Nat.{ℕ}
 use mathlib.Core.Bool.{_&&_, not}

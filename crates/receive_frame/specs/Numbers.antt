@@ -1,4 +1,4 @@
--- What a frame is told, in the paper's numbers alone: a chain of rules from what is given, beside the one in Frame.antt that gives an
+-- What a frame is answered, in the paper's numbers alone: a chain of rules from what is given, beside the one in Frame.antt that gives an
 -- answer. The paper, "Refusals", and rules 3 to 8. Definitions and the statement only.
 use Prim.Native.Nat.{ℕ}
 use mathlib.Core.Path.{_≡_}

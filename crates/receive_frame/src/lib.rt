@@ -48,7 +48,7 @@ pub fn on_frame(
     ensures { λ _. ⌜ Whole (now (run .exit)) (now (totals .exit)) ⌝ }
     ensures { λ _. ⌜ Wire receive × Wire transmit ⌝ }
 {
-    // a view of an array tells its length, and costs nothing
+    // a view of an array has its length, and costs nothing
     let _words: &[u32] = run;
     let _both: &[i64] = totals;
     if !is_well_formed(set, names, ids, timers, rdi, run, totals) {

@@ -1,5 +1,5 @@
--- What a CCM tells. The paper, rule 5: a MEG ID that is not ours; else a MEP ID that is no peer's, our own included; else the peer, with a period
--- code unlike ours or our own. The MEG ID is compared over all 48 octets. Definitions only.
+-- What a CCM says. The paper, rule 5: a MEG ID that is not ours; else a MEP ID that is no peer's, our own included; else the peer, with a
+-- period code unlike ours or our own. The MEG ID is compared over all 48 octets. Definitions only.
 use Prim.Native.Nat.{ℕ}
 use mathlib.Core.Bool.{not}
 use mathlib.Core.List.{List, [], _∷_}

@@ -1,5 +1,5 @@
--- The answer to a request. The paper, rule 6: LBM, LMM and DMM are answered with LBR, LMR and DMR; the LMR gets our received and sent counts, the
--- DMR the caller's two stamps; refusal 3 where the buffer is shorter. Definitions only.
+-- The answer to a request. The paper, rule 6: LBM, LMM and DMM are answered with LBR, LMR and DMR; the LMR gets our received and sent
+-- counts, the DMR the caller's two stamps; refusal 3 where the buffer is shorter. Definitions only.
 use Prim.Native.Nat.{ℕ}
 use mathlib.Core.List.{List}
 use Rattle.base_stamp.specs.declared.Stamp.{Stamp}

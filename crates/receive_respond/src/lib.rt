@@ -31,7 +31,7 @@ pub enum Request {
 fn own_address(names: &Names) -> [u8; 6]
     ensures { λ r. ⌜ r ≡ ownNamed (now (names .entry)) ⌝ }
 {
-    // a view of the array tells its length, and costs nothing
+    // a view of the array has its length, and costs nothing
     let _all: &[u8] = names;
     [names[0], names[1], names[2], names[3], names[4], names[5]]
 }

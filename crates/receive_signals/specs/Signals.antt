@@ -1,4 +1,4 @@
--- The timers that a CCM, AIS or LCK of our level sets. The paper, rule 5: all are set to the own hold time; AIS and LCK set their timer to 3.5
+-- Timers that a CCM, AIS or LCK of our level sets. The paper, rule 5: all are set to the own hold time; AIS and LCK set their timer to 3.5
 -- of the period in the frame. Definitions only.
 use Rattle.base_period.specs.Periods.{holdOf}
 use Rattle.state_view.specs.State.{State}

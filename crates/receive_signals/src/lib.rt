@@ -1,4 +1,4 @@
-// What a CCM, AIS or LCK of our level tells, and the timers that it sets. Rule 5 of the paper.
+// What a CCM, AIS or LCK of our level says, and the timers that it sets. Rule 5 of the paper.
 ghost use mathlib.Core.Path.{_≡_};
 ghost use lib.ListN as ListN;
 ghost use Rattle.state_view.specs.State.{before, afterSignal};
@@ -17,7 +17,7 @@ use state_view::Totals;
 use state_view::UNEXPECTED_MEP;
 use state_view::UNEXPECTED_PERIOD;
 
-// What a message tells.
+// What a message says.
 pub enum Signal {
     // A CCM of another MEG.
     Mismerge,
@@ -42,7 +42,7 @@ fn put_slot(slots: &mut [u32], slot: usize, word: u32)
     slots[slot] = word;
 }
 
-// Sets what a message tells: every timer to our own hold time, but those of AIS and LCK to that of the period in the frame.
+// Sets what a message says: every timer to our own hold time, but those of AIS and LCK to that of the period in the frame.
 pub fn set_timers(
     set: &Set,
     names: &Names,
@@ -56,7 +56,7 @@ pub fn set_timers(
     ensures { λ _. ⌜ afterSignal set names ids timers rdi run totals ≡ signalled (before set names ids timers rdi run totals) signal ⌝ }
     ensures { λ _. ⌜ Whole (now (run .exit)) (now (totals .entry)) ⌝ }
 {
-    // a view of an array tells its length, and costs nothing
+    // a view of an array has its length, and costs nothing
     let _words: &[u32] = run;
     let _both: &[i64] = totals;
     let hold = hold_of(set[PERIOD]);

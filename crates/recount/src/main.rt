@@ -14,7 +14,7 @@ use stored_line::LINE;
 use stored_replies::REPLY;
 use stored_replies::recount;
 
-// The octets read at a time: whole replies, so that none lies across two chunks.
+// The octets read at a time: whole replies, so that none is split between two chunks.
 const CHUNK: usize = 16384;
 
 // Room for a record of each.
@@ -52,7 +52,7 @@ fn say_count(session: LossSession) {
     say(b"recount: replies worked: ", replies(session), b"\n");
 }
 
-// Writes the first n records; tells whether all were written.
+// Writes the first n records; returns whether all were written.
 fn print(records: &[u8; ROOM], n: usize) -> bool {
     let all: &[u8] = records;
     if all.len() / LINE < n {
@@ -65,7 +65,7 @@ fn print(records: &[u8; ROOM], n: usize) -> bool {
     false
 }
 
-// Tells why it ends, if it does; tells whether it goes on. The session is well formed and the room is enough, so nothing is ever refused.
+// Says why it ends, if it does; returns whether it goes on. The session is well formed and the room is enough, so nothing is ever refused.
 fn goes_on(session: LossSession, refusal: u32, halted: u32, left: usize) -> bool {
     if refusal != 0 {
         say(b"recount: refused ", refusal as u64, b"\n");

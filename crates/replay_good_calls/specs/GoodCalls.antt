@@ -1,5 +1,5 @@
--- Which octets are a call: an unknown number, a body of a wrong length, a side above 1 or a buffer above 1,600 makes a bad one. Definitions and
--- the statement only.
+-- Which octets are a call: an unknown number, a body of a wrong length, a side above 1 or a buffer above 1,600 makes a bad one. Definitions
+-- and the statement only.
 use Prim.Native.Nat.{ℕ, _+_, _-_, _≤_}
 use mathlib.Core.Path.{_≡_}
 use mathlib.Core.Bool.{Bool, true, false, _&&_, not, cond}

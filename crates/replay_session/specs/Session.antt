@@ -39,7 +39,7 @@ sessionOctets s =
     ++ signed (s .far)
     ++ field 4 (s .intervals)
 
--- the session in octets, taken as it stands
+-- the session in octets, taken as it is
 abbrev pub sessionAt : List ℕ → LossSession
 sessionAt octets = record {
   kept = fieldAt 0 1 octets;

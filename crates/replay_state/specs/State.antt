@@ -1,6 +1,6 @@
--- A state in octets, as recorded runs put and show it: settings 81, as in a stored record; sent 4, received 4; eight peer timers of 4, eight peer
--- RDI of 1; mismerge, unexpected MEP, unexpected period, unexpected level, AIS, LCK and ticks to the next CCM, 4 each; the session, 37.
--- Definitions and the statement only.
+-- A state in octets, as recorded runs put and show it: settings 81, as in a stored record; sent 4, received 4; eight peer timers of 4,
+-- eight peer RDI of 1; mismerge, unexpected MEP, unexpected period, unexpected level, AIS, LCK and ticks to the next CCM, 4 each; the
+-- session, 37. Definitions and the statement only.
 use Prim.Native.Nat.{ℕ, _≤_}
 use mathlib.Core.Path.{_≡_}
 use mathlib.Core.List.{List, [], _∷_, _++_}
@@ -17,7 +17,7 @@ use Rattle.stored_settings_body.specs.Lying.{setOf, namesOf}
 use Rattle.replay_session.specs.Session.{fieldAt, sessionOctets, sessionAt}
 use Rattle.replay_state.specs.Words.{wordsOctets, wordsIn}
 
--- what stands between settings and session: the counts, the slots' timers and RDI, the other words
+-- what is between settings and session: the counts, the slots' timers and RDI, the other words
 unfoldable pub runningOctets : List ℕ → List ℕ → List ℕ → List ℕ → List ℕ
 runningOctets counts timers rdi others = wordsOctets 4 counts ++ wordsOctets 4 timers ++ wordsOctets 1 rdi ++ wordsOctets 4 others
 
@@ -29,7 +29,7 @@ stateOctets s =
     (s .mismerge ∷ s .unexpected-mep ∷ s .unexpected-period ∷ s .unexpected-level ∷ s .ais ∷ s .lck ∷ s .next ∷ [])
     ++ sessionOctets (s .session)
 
--- the state in octets, taken as it stands
+-- the state in octets, taken as it is
 abbrev pub stateAt : List ℕ → State
 stateAt octets = record {
   settings = settingsIn slots (part 0 81 octets);
@@ -47,7 +47,7 @@ stateAt octets = record {
   session = sessionAt (part 157 37 octets);
 }
 
--- ── how it lies in memory ──
+-- ── how it is laid out in memory ──
 
 -- the running words of the state in octets, with this session
 abbrev pub runAt : List ℕ → LossSession → List ℕ

@@ -1,4 +1,4 @@
--- Words in n octets each, one behind the other, little-endian. Definitions and the statement only.
+-- Words in n octets each, one after the other, little-endian. Definitions and the statement only.
 use Prim.Native.Nat.{ℕ, zero, suc, _+_, _*_, _^_, _≤_, _<_}
 use mathlib.Core.Path.{_≡_}
 use mathlib.Core.List.{List, [], _∷_, _++_}
@@ -19,7 +19,7 @@ wordsIn n (suc k) octets = fieldAt 0 n octets ∷ wordsIn n k (drop n octets)
 
 -- words in n octets each, for any n: where each is, how long all are, there and back
 pub record WordsInOctets : Type 0 where
-  -- the word i stands in n octets, from place n i on
+  -- the word i is in n octets, from place n i on
   pub at : (n k : ℕ) (octets : List ℕ) (i : ℕ) → i < k → getD (wordsIn n k octets) i 0 ≡ fieldAt (n * i) n octets
   -- how long both are
   pub long : (n : ℕ) (words : List ℕ) → length (wordsOctets n words) ≡ n * length words

@@ -2,7 +2,7 @@
 // There may be any number of them. It prints `refused 7` at the first that is bad or cut short, says on standard error which one that is
 // and where it begins, and stops. Any argument gets a usage line on standard error, and nothing is printed: a header alone would look like
 // an empty month. What is printed for a chunk of records is proved in `stored_sheet_lines`; here is only the reading and the writing. The
-// buffer is as large as a chunk asks for, so too little room is never answered. The loop ends by a count of turns, which starts at
+// buffer is as large as a chunk needs, so too little room is never answered. The loop ends by a count of turns, which starts at
 // 2^64 - 1, since a loop must be shown to end and nothing says that the input does.
 use libc::STDERR_FILENO;
 use libc::STDIN_FILENO;
@@ -15,13 +15,13 @@ use stored_sheet_lines::write_lines;
 // The octets of a record.
 const RECORD: u64 = 24;
 
-// The octets read at a time: whole records, so that none lies across two chunks.
+// The octets read at a time: whole records, so that none is split between two chunks.
 const CHUNK: usize = 24576;
 
-// Room for their text, as much as `write_lines` asks for: three octets for each and one line more.
+// Room for their text, as much as `write_lines` needs: three octets for each and one line more.
 const ROOM: usize = 3 * CHUNK + LONGEST;
 
-// Prints the first n octets of the text; tells whether all were written.
+// Prints the first n octets of the text; returns whether all were written.
 fn print(text: &[u8; ROOM], n: usize) -> bool {
     let all: &[u8] = text;
     if all.len() < n {
@@ -67,8 +67,8 @@ fn complain(text: &[u8; ROOM], n: usize, at: u64) {
     io::write_all(STDERR_FILENO, b": refused 7\n");
 }
 
-// Reads the chunk at a place and prints its text; tells whether more is to be printed. The header comes once the input has begun or ended,
-// so that what a program before this one has to say comes first.
+// Reads the chunk at a place and prints its text; returns whether more is to be printed. The header comes once the input has begun or
+// ended, so that what a program before this one has to say comes first.
 fn turn(at: u64) -> bool {
     let mut chunk = [0u8; CHUNK];
     let got = io::read_full(STDIN_FILENO, &mut chunk);
@@ -80,7 +80,7 @@ fn turn(at: u64) -> bool {
     }
     let mut text = [0u8; ROOM];
     match write_lines(&mut text, &chunk[..got]) {
-        // never: ROOM is what it asks for
+        // never: ROOM is what it needs
         Lines::NoRoom => {
             io::write_all(STDERR_FILENO, b"sheet: too little room for a chunk\n");
             false

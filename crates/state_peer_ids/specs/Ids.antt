@@ -1,5 +1,5 @@
--- The test on the MEP IDs of the peers. The paper, "Numbers": MEP ID 1 to 8,191; peers distinct, none equal to the own ID; used peer slots come
--- first, unused ones hold 0. Definitions only: what they mean is said in `state_settings`, with all rules on settings.
+-- The test on the MEP IDs of the peers. The paper, "Numbers": MEP ID 1 to 8,191; peers distinct, none equal to the own ID; used peer slots
+-- come first, unused ones hold 0. Definitions only: what they mean is said in `state_settings`, with all rules on settings.
 use Prim.Native.Nat.{ℕ}
 use mathlib.Core.List.{List}
 use mathlib.Core.Bool.{Bool, _&&_, not}

@@ -1,7 +1,7 @@
 // The MEP IDs of the peers, slot by slot: a part of whether settings are valid.
-// Used slots and unused ones are tested apart. Over eight slots the compiler lays all turns of both loops out one behind the other, a
+// Used slots and unused ones are tested apart. Over eight slots the compiler lays out all turns of both loops one after the other, a
 // comparison and a jump for each pair of IDs; tests of all pairs over all slots took longer. Over sixty-four the pairs are too many: a
-// table with a bit for each ID can stand in used_good, behind the same contract.
+// table with a bit for each ID can take their place in used_good, under the same contract.
 ghost use mathlib.Core.Bool.{_&&_};
 ghost use mathlib.Core.Path.{_≡_};
 ghost use Prim.Native.Nat.{_≤_};
@@ -18,7 +18,7 @@ fn id_good(mep: u32, id: u32) -> bool
     (1 <= id) & (id <= 8191) & (id != mep)
 }
 
-// Whether each of the first words, as many as are used, may be one, and no two are alike: none stands at a slot before its own.
+// Whether each of the first words, as many as are used, may be one, and no two are alike: none is at a slot before its own.
 fn used_good(ids: &[u32], used: usize, mep: u32) -> bool
     requires { ⌜ used ≤ length (now ids) ⌝ }
     ensures { λ r. ⌜ r ≡ (every (idGood mep) (take used (now (ids .entry))) && distinct (take used (now (ids .entry)))) ⌝ }

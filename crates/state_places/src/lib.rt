@@ -1,8 +1,8 @@
-// What storing a word, a session or all timers leaves of a state, one law for every word; a session put where it lies.
-// Nothing is refused or needed. A word is put by its name (`state_view.Word`, `state_view.put`): that storing it at its place changes
-// that word and no other is one law for all of them, `state_places.word`, so a new word needs a row and no law. A state lies in one way
-// only: two runs of arrays that show the same state are the same, `state_places.one`. So a contract that names the state after a call
-// names the content of every array, and the proofs of one result rest on it.
+// What storing a word, a session or all timers leaves of a state, one law for every word; a session put in its place.
+// Nothing is refused or needed. A word is put by its name (`state_view.Word`, `state_view.put`): that storing it at its place changes that
+// word and no other is one law for all of them, `state_places.word`, so a new word needs a row and no law. A state is laid out in one way
+// only: two runs of arrays that show the same state are the same, `state_places.one`. So a contract that names the state after a call names
+// the content of every array, and the proofs of one result rest on it.
 ghost use mathlib.Core.Path.{_≡_};
 ghost use Rattle.state_view.specs.State.{before, afterSession};
 ghost use Rattle.state_view.specs.Changed.{withSession};
@@ -22,7 +22,7 @@ use state_view::TXFCB;
 use state_view::TXFCF;
 use state_view::Totals;
 
-// Puts a loss session where the state's lies; all else is as it was, and both arrays are as long as they were.
+// Puts a loss session in place of the state's; all else is as it was, and both arrays are as long as they were.
 pub fn put_session(
     set: &Set,
     names: &Names,
@@ -36,7 +36,7 @@ pub fn put_session(
     ensures { λ _. ⌜ afterSession set names ids timers rdi run totals ≡ withSession session (before set names ids timers rdi run totals) ⌝ }
     ensures { λ _. ⌜ Whole (now (run .exit)) (now (totals .exit)) ⌝ }
 {
-    // a view of an array tells its length, and costs nothing
+    // a view of an array has its length, and costs nothing
     let _words: &[u32] = run;
     let _both: &[i64] = totals;
     let last = session.last;

@@ -1,4 +1,4 @@
--- What a box is set to, and where it lies. The paper, "Numbers". Definitions only.
+-- What a box is set to, and where it is kept. The paper, "Numbers". Definitions only.
 use Prim.Native.Nat.{ℕ, _+_}
 use mathlib.Core.Path.{_≡_}
 use mathlib.Core.List.{List}
@@ -22,7 +22,7 @@ addressOctets = 6
 abbrev pub megOctets : ℕ
 megOctets = 48
 
--- from which octet of the names on each lies: our own address, the loss peer's, the MEG ID; and how many octets they are together
+-- at which octet of the names each begins: our own address, the loss peer's, the MEG ID; and how many octets they are together
 abbrev pub ownFrom : ℕ
 ownFrom = 0
 
@@ -65,7 +65,7 @@ losspeerNamed names = addressAt losspeerFrom names
 abbrev pub megNamed : List ℕ → List ℕ
 megNamed names = part megFrom megOctets names
 
--- the settings that lie in words, names and IDs
+-- the settings in words, names and IDs
 abbrev pub settingsOf : List ℕ → List ℕ → List ℕ → Settings
 settingsOf set names ids = record {
   level = getD set 0 0;
@@ -86,7 +86,7 @@ Lent = Both (RefT (List ℕ)) (RefT (List ℕ))
 abbrev pub lentSettings : Lent → Lent → Lent → Settings
 lentSettings set names ids = settingsOf (now (set .entry)) (now (names .entry)) (now (ids .entry))
 
--- settings of n slots have the lengths in which they are handed over
+-- settings of n slots have the lengths in which they are passed in
 pub record Shaped (n : ℕ) (t : Settings) : Type 0 where
   pub own : length (t .own) ≡ addressOctets
   pub losspeer : length (t .losspeer) ≡ addressOctets

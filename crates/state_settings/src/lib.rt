@@ -1,5 +1,5 @@
 // What a box is set to, and when that is valid.
-// The settings lie in three lent arrays; any content is a value, and what breaks a rule is told and not assumed away.
+// The settings are in three lent arrays; any content is a value, and what breaks a rule is tested for and not assumed away.
 ghost use mathlib.Core.Path.{_≡_};
 ghost use lib.ListN.{getD};
 ghost use Rattle.state_settings.specs.Settings.{lentSettings, ownNamed, losspeerNamed};
@@ -22,7 +22,7 @@ pub type Names = [u8; NAMES];
 // A word for each slot of a peer: its ID, its timer, its RDI.
 pub type Slots = [u32; PEERS];
 
-// Where the settings' words lie.
+// Where the settings' words are.
 pub const LEVEL: usize = 0;
 
 pub const MEP: usize = 1;

@@ -1,6 +1,6 @@
 // Whether the peers' slots are within their bounds, and unused ones empty: a part of whether a state is well formed.
 // The bounds are tested over all slots, which for eight are a few vector instructions, and the unused part by itself. Over sixty-four the
-// bounds are tested in the used part alone, behind the same contract.
+// bounds can be tested in the used part alone, under the same contract.
 ghost use mathlib.Core.Path.{_≡_};
 ghost use Rattle.state_view.specs.WellFormed.{slotsGood};
 use base_words::all_within;

@@ -1,5 +1,6 @@
--- Whether any condition stands. The paper, "A tick": loss of continuity stands exactly while a peer's timer is 0, every other condition while
--- its timer is above 0. A peer's RDI is none of them: it is told, and sets no RDI of ours. Definitions and the statement only.
+-- Whether any condition is active. The paper, "A tick": loss of continuity stands exactly while a peer's timer is 0, every other
+-- condition while its timer is above 0. A peer's RDI is none of them: it is reported, and sets no RDI of ours. Definitions and the
+-- statement only.
 use Prim.Native.Nat.{ℕ, _<_}
 use mathlib.Core.Path.{_≡_}
 use mathlib.Core.List.{List}

@@ -1,4 +1,4 @@
-// Whether any condition stands, for the RDI of our own CCM.
+// Whether any condition is active, for the RDI of our own CCM.
 // It only reads the state. Apart from `call_conditions`: whether any condition is active is asked for each CCM, each by itself only by
 // whoever asks.
 ghost use mathlib.Core.Path.{_≡_};

@@ -1,16 +1,16 @@
--- A call's arguments as they are handed over: the seven arrays of a state, which come first in every call, and what the call brings
--- behind them. Each place is named here once. Definitions only.
+-- A call's arguments as they are passed in: the seven arrays of a state, which come first in every call, and what the call brings after
+-- them. Each place is named here once. Definitions only.
 use Prim.Native.Nat.{ℕ}
 use mathlib.Core.List.{List}
 use lib.IntN.{ℤ}
 use denote.Ref.{RefT, now}
 use Rattle.state_view.specs.declared.StateArrays.{StateArrays}
 
--- seven arrays, and X behind them
+-- seven arrays, and X after them
 abbrev pub Arrays : Type 0 → Type 0
 Arrays X = RefT (List ℕ) × (RefT (List ℕ) × (RefT (List ℕ) × (RefT (List ℕ) × (RefT (List ℕ) × (RefT (List ℕ) × (RefT (List ℤ) × X))))))
 
--- what lies in them
+-- what is in them
 abbrev pub held : {X : Type 0} → Arrays X → StateArrays
 held a =
     let (set, (names, (ids, (timers, (rdi, (run, (totals, _))))))) = a in
@@ -24,7 +24,7 @@ held a =
       totals = now totals;
     }
 
--- what stands behind them
+-- what comes after them
 abbrev pub behind : {X : Type 0} → Arrays X → X
 behind a = let (_, (_, (_, (_, (_, (_, (_, x))))))) = a in x
 
@@ -32,7 +32,7 @@ behind a = let (_, (_, (_, (_, (_, (_, (_, x))))))) = a in x
 abbrev pub fifth : {A B C D E X : Type 0} → A × (B × (C × (D × (E × X)))) → E
 fifth b = let (_, (_, (_, (_, (e, _))))) = b in e
 
--- a box's arrays with those anew that a call may write: no call writes settings
+-- a box's arrays with new content in those that a call may write: no call writes settings
 abbrev pub anew : StateArrays → List ℕ → List ℕ → List ℕ → List ℤ → StateArrays
 anew h timers rdi run totals = record {
   set = h .set;

@@ -19,7 +19,7 @@ pub data Word : Type 0 where
   sent : Word
   received : Word
 
--- where it lies among the running words
+-- where it is among the running words
 abbrev pub placeOf : Word → ℕ
 placeOf mismerge = 0
 placeOf unexpected-level = 1
@@ -31,7 +31,7 @@ placeOf next = 6
 placeOf sent = 7
 placeOf received = 8
 
--- v where the word is the one at place i, else what stood there
+-- v where the word is the one at place i, else what was there
 abbrev pub anew : Word → ℕ → ℕ → ℕ → ℕ
 anew w v i old = cond (eqb (placeOf w) i) v old
 

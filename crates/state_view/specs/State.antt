@@ -1,4 +1,4 @@
--- What a box knows: its settings, its timers, its counts, its loss session; and where each word of it lies. The paper, "Numbers" and rules 5
+-- What a box knows: its settings, its timers, its counts, its loss session; and where each word of it is. The paper, "Numbers" and rules 5
 -- and 7. Definitions only.
 use Prim.Native.Nat.{ℕ}
 use mathlib.Core.List.{List, [], _∷_}
@@ -47,7 +47,7 @@ sessionIn run totals = record {
   far = getD totals 1 (pos 0);
 }
 
--- the state that lies in seven arrays: settings' words, names, peers' IDs; peers' timers, peers' RDI, running words, totals
+-- the state in seven arrays: settings' words, names, peers' IDs; peers' timers, peers' RDI, running words, totals
 abbrev pub viewOf : List ℕ → List ℕ → List ℕ → List ℕ → List ℕ → List ℕ → List ℤ → State
 viewOf set names ids timers rdi run totals = record {
   settings = settingsOf set names ids;
@@ -88,7 +88,7 @@ runOf s =
 abbrev pub totalsOf : State → List ℤ
 totalsOf s = s .session .near ∷ s .session .far ∷ []
 
--- the state that lies in arrays held together
+-- the state in arrays held together
 abbrev pub shown : StateArrays → State
 shown a = viewOf (a .set) (a .names) (a .ids) (a .timers) (a .rdi) (a .run) (a .totals)
 

@@ -1,5 +1,5 @@
-// What a box knows, where it lies and when it is well formed: a state is lent in seven arrays, and any content is a value.
-// `state_view.viewOf` says which word lies where, and every definition speaks of the record that it gives. When a state is well formed is
+// What a box knows, where it is kept and when it is well formed: a state is lent in seven arrays, and any content is a value.
+// `state_view.viewOf` says which word is where, and every definition speaks of the record that it gives. When a state is well formed is
 // said here, as rules, one field each (`state_view.WellFormed`), and as a test (`state_view.wellFormed`), and both agree; `state_timers`,
 // `state_slots` and `state_well_formed` carry the test out. A word is 32 bits wide, whatever its range, so that any content is a value
 // that can be refused.
@@ -20,7 +20,7 @@ pub type Run = [u32; RUN];
 
 pub type Totals = [i64; TOTALS];
 
-// Where the running words lie: the timers of the conditions, the ticks to the next CCM, the service counts, the loss session.
+// Where the running words are: the timers of the conditions, the ticks to the next CCM, the service counts, the loss session.
 pub const MISMERGE: usize = 0;
 
 pub const UNEXPECTED_LEVEL: usize = 1;
@@ -51,12 +51,12 @@ pub const OURS: usize = 13;
 
 pub const INTERVALS: usize = 14;
 
-// Where the totals lie.
+// Where the totals are.
 pub const NEAR: usize = 0;
 
 pub const FAR: usize = 1;
 
-// A state as it lies in its seven arrays: settings' words, names, peers' IDs; peers' timers, peers' RDI, running words, totals.
+// A state in its seven arrays: settings' words, names, peers' IDs; peers' timers, peers' RDI, running words, totals.
 #[repr(C)]
 pub struct StateArrays {
     pub set: Set,

@@ -19,7 +19,7 @@ use state_view::Run;
 use state_view::Totals;
 use state_view::session_of;
 
-// Whether the state that lies in the arrays is well formed.
+// Whether the state in the arrays is well formed.
 pub fn is_well_formed(
     set: &Set,
     names: &Names,

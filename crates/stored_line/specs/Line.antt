@@ -1,5 +1,5 @@
--- A loss line and its record. The paper, "Stored records": kind 2, length 22: near 8 and far 8, signed, then intervals 4, little-endian; its
--- values keep the rules of a session on intervals and totals. Definitions only.
+-- A loss line and its record. The paper, "Stored records": kind 2, length 22: near 8 and far 8, signed, then intervals 4, little-endian;
+-- its values keep the rules of a session on intervals and totals. Definitions only.
 use Prim.Native.Nat.{ℕ, _*_, _≤_}
 use mathlib.Core.List.{List, _++_}
 use mathlib.Core.Bool.{Bool}

@@ -1,5 +1,5 @@
--- Reading and writing a loss line. The paper, "Stored records" and "Refusals": reading gives 7, writing 4 and then 3; any other value beside a
--- refusal is 0; what is written reads back, and what is read writes back as the same octets. Definitions and the statement only.
+-- Reading and writing a loss line. The paper, "Stored records" and "Refusals": reading gives 7, writing 4 and then 3; any other value
+-- beside a refusal is 0; what is written reads back, and what is read writes back as the same octets. Definitions and the statement only.
 use Prim.Native.Nat.{ℕ, _+_, _≤_, _<_}
 use mathlib.Core.Path.{_≡_}
 use mathlib.Core.List.{List, [], _∷_, _++_}
@@ -36,7 +36,7 @@ readLine octets =
 unfoldable pub writeLine : LossLine → List ℕ → Wrote RecordAnswer
 writeLine line buffer = writeRecord (keepsRules line) 2 (lineBody line) buffer
 
--- and the numbers that it is told in
+-- and its numbers
 abbrev pub lineWrittenNumbers : LossLine → List ℕ → RecordTold
 lineWrittenNumbers line buffer = writing.recordNumbers (keepsRules line) (lineBody line) buffer
 
@@ -72,14 +72,14 @@ pub record LossRecords : Type 0 where
   pub refuses-7 : (octets : List ℕ) → (readLine octets ≡ Refused) ↔ (NoRecord 2 20 octets ⊎ (KeepsRules (lineIn octets) → ⊥))
   pub zeros : (octets : List ℕ) → readLine octets ≡ Refused → lineNumbers octets ≡ seven
   pub agree : (octets : List ℕ) → lineTold (readLine octets) ≡ lineNumbers octets
-  -- a line that is written reads back, whatever stands behind it
+  -- a line that is written reads back, whatever is behind it
   pub written : (line : LossLine) (rest : List ℕ) → KeepsRules line → readLine (lineRecord line ++ rest) ≡ Line line
   -- a line that is read keeps the rules, and writes back as the same 24 octets
   pub kept : (octets : List ℕ) (line : LossLine) → readLine octets ≡ Line line → KeepsRules line
   pub again : (octets : List ℕ) (line : LossLine) → Octets octets → readLine octets ≡ Line line → part 0 24 octets ≡ lineRecord line
-  -- what stands behind the 24 octets is not looked at
+  -- what is behind the 24 octets is not looked at
   pub front-alone : (octets rest : List ℕ) → 24 ≤ length octets → readLine (octets ++ rest) ≡ readLine octets
-  -- 4 exactly where a rule is broken, else 3 exactly where the buffer is shorter than 24; neither touches it
+  -- 4 exactly where a rule is broken, else 3 exactly where the buffer is shorter than 24; neither changes it
   pub refuses-4 : (line : LossLine) (buffer : List ℕ) → (writeLine line buffer .answer ≡ stored.BreaksRule) ↔ (KeepsRules line → ⊥)
   pub refuses-3 : (line : LossLine) (buffer : List ℕ) → (writeLine line buffer .answer ≡ stored.NoRoom) ↔ (KeepsRules line × (length buffer < 24))
   pub refused : (line : LossLine) (buffer : List ℕ) → ((writing.recordTold (writeLine line buffer .answer) .refusal ≡ 0) → ⊥) → writeLine line buffer .buffer ≡ buffer

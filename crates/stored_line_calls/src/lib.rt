@@ -24,7 +24,7 @@ const KIND: u16 = 2;
 
 const BODY: usize = 20;
 
-// Where the values stand in the record, behind its head.
+// Where the values are in the record, behind its head.
 const NEAR: usize = 4;
 
 const FAR: usize = 12;
@@ -61,7 +61,7 @@ fn line_in(from: &[u8]) -> LossLine
     }
 }
 
-// Reads the loss line at the front of the octets. What stands behind its record is not looked at.
+// Reads the loss line at the front of the octets. What is behind its record is not looked at.
 pub fn read_line(from: &[u8]) -> LineAnswer
     ensures { λ r. ⌜ (r ≡ readLine (now (from .entry))) × (lineTold r ≡ lineNumbers (now (from .entry))) ⌝ }
 {

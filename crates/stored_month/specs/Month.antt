@@ -66,7 +66,7 @@ pub record Months : Type 0 where
   -- and the sheet of them is the account's sheet
   pub sheet : (ts : List Counts) → length ts ≤ mostReadings → Steady ts
       → sheetOf (recounted (rawReplies (map shown ts)) .records) ≡ headerText ++ textsOf (accountLines [] ts)
-  -- behind 1,000,000,001 replies the work halts with 5 at the next, and nothing more is taken or written
+  -- after 1,000,000,001 replies the work halts with 5 at the next, and nothing more is taken or written
   pub full : (rs more : List Readings) (r : Readings) → mostReadings ≤ length rs
       → worked (leaves afterReading clearedSession rs) (r ∷ more) ≡ stopped 5 (leaves afterReading clearedSession rs)
   -- the grain quay: -1, and not 4,294,967,295

@@ -1,5 +1,5 @@
--- A stored record of any kind. The paper, "Stored records": little-endian; two octets with the length of all that follows them, two with the
--- kind, then the body. It is read from the front of the octets given, and what stands behind it is not looked at. Definitions and the
+-- A stored record of any kind. The paper, "Stored records": little-endian; two octets with the length of all that follows them, two with
+-- the kind, then the body. It is read from the front of the octets given, and what is behind it is not looked at. Definitions and the
 -- statement only.
 use Prim.Native.Nat.{ℕ, _+_, _^_, _≤_, _<_}
 use mathlib.Core.Path.{_≡_}
@@ -51,10 +51,10 @@ pub record Records : Type 0 where
   -- the test means the rules, and fails exactly where one of them is broken
   pub is : (kind body : ℕ) (octets : List ℕ) → (isRecord kind body octets ≡ true) ↔ IsRecord kind body octets
   pub is-not : (kind body : ℕ) (octets : List ℕ) → (isRecord kind body octets ≡ false) ↔ NoRecord kind body octets
-  -- a record is one, whatever stands behind it, and its body is read back; two octets must be able to tell its length and kind
+  -- a record is one, whatever is behind it, and its body is read back; two octets must be able to express its length and kind
   pub written : (kind : ℕ) (body rest : List ℕ) → kind < 2 ^ 16 → 2 + length body < 2 ^ 16
       → IsRecord kind (length body) (recordOf kind body ++ rest) × (part 4 (length body) (recordOf kind body ++ rest) ≡ body)
   -- what is read as a record is the record of its body
   pub again : (kind body : ℕ) (octets : List ℕ) → Octets octets → IsRecord kind body octets → part 0 (4 + body) octets ≡ recordOf kind (part 4 body octets)
-  -- what stands behind it is not looked at
+  -- what is behind it is not looked at
   pub front-alone : (kind body : ℕ) (octets rest : List ℕ) → 4 + body ≤ length octets → isRecord kind body (octets ++ rest) ≡ isRecord kind body octets

@@ -15,7 +15,8 @@ use Rattle.stored_record.specs.declared.RecordAnswer.the-variants.{Break
 use Rattle.stored_record.specs.declared.RecordTold.{RecordTold}
 use Rattle.stored_record.specs.Record.{recordOf}
 
--- refusal 4 where the values break a rule, or two octets cannot tell the length; refusal 3; the record laid over the buffer's first octets
+-- refusal 4 where the values break a rule, or two octets cannot express the length; refusal 3; the record laid over the buffer's first
+-- octets
 unfoldable pub writeRecord : Bool → ℕ → List ℕ → List ℕ → Wrote RecordAnswer
 writeRecord good kind body buffer =
     choose (
@@ -51,12 +52,12 @@ pub record Writes : Type 0 where
       → (writeRecord good kind body buffer .answer ≡ BreaksRule) ↔ ((good ≡ false) ⊎ (65533 < length body))
   pub refuses-3 : (good : Bool) (kind : ℕ) (body buffer : List ℕ)
       → (writeRecord good kind body buffer .answer ≡ NoRoom) ↔ ((good ≡ true) × (length body ≤ 65533) × (length buffer < 4 + length body))
-  -- neither touches the buffer
+  -- neither changes the buffer
   pub refused : (good : Bool) (kind : ℕ) (body buffer : List ℕ)
       → ((recordTold (writeRecord good kind body buffer .answer) .refusal ≡ 0) → ⊥) → writeRecord good kind body buffer .buffer ≡ buffer
   -- any other record is written, and the octets behind it stay
   pub writes : (kind : ℕ) (body buffer : List ℕ) → length body ≤ 65533 → 4 + length body ≤ length buffer
       → writeRecord true kind body buffer ≡ wrote (Octets (4 + length body)) (laid 0 (recordOf kind body) buffer)
-  -- the answer is told in these numbers; beside a refusal the length is 0
+  -- the answer has these numbers; beside a refusal the length is 0
   pub agree : (good : Bool) (kind : ℕ) (body buffer : List ℕ) → recordTold (writeRecord good kind body buffer .answer) ≡ recordNumbers good body buffer
   pub zeros : (answer : RecordAnswer) → ((recordTold answer .refusal ≡ 0) → ⊥) → recordTold answer .length ≡ 0

@@ -21,7 +21,7 @@ pub enum RecordAnswer {
     BreaksRule,
     // Refusal 3: the buffer is shorter than the record.
     NoRoom,
-    // The record stands in the buffer's first octets, so many.
+    // The record is in the buffer's first octets, so many.
     Octets(usize),
 }
 
@@ -55,10 +55,10 @@ pub fn tell(answer: RecordAnswer) -> RecordTold
 // The octets in front of a record's body.
 pub const HEAD: usize = 4;
 
-// The longest body whose length two octets can tell.
+// The longest body whose length two octets can express.
 const LONGEST: usize = 65533;
 
-// Tells whether the octets begin with a whole record of this kind that has a body of so many octets. What stands behind it is not looked at.
+// Whether the octets begin with a whole record of this kind that has a body of so many octets. What is behind it is not looked at.
 pub fn is_record(from: &[u8], kind: u16, body: usize) -> bool
     ensures { λ r. ⌜ r ≡ isRecord kind body (now (from .entry)) ⌝ }
 {
@@ -81,8 +81,8 @@ fn put_record(into: &mut [u8], kind: u16, body: &[u8])
     copy_octets(into, HEAD, body);
 }
 
-// Writes a record of a kind into the front of the buffer. `good` says whether the values keep their rules: one that breaks a rule is refused before the
-// buffer's room is looked at, and so is a body that no record can hold.
+// Writes a record of a kind into the front of the buffer. `good` says whether the values keep their rules. Values that break one are
+// refused before the buffer's length is looked at, and so is a body that no record can hold.
 pub fn write_record(into: &mut [u8], kind: u16, body: &[u8], good: bool) -> RecordAnswer
     ensures { λ r. ⌜ (wrote r (now (into .exit)) ≡ writeRecord good kind (now (body .entry)) (now (into .entry)))
         × (recordTold r ≡ recordNumbers good (now (body .entry)) (now (into .entry))) ⌝ }

@@ -17,7 +17,7 @@ use Rattle.stored_replies.specs.Replies.{replies, Worked, behind, worked
 abbrev pub answered : ℕ → ℕ → ℕ → LossSession → Recounted
 answered refusal halted taken s = record { refusal = refusal; halted = halted; taken = taken; session = s }
 
--- refused: nothing is taken, and the session is the one that was handed over
+-- refused: nothing is taken, and the session is the one that was passed in
 abbrev pub refusedWith : ℕ → LossSession → Recounted
 refusedWith n s = answered n 0 0 s
 
@@ -25,8 +25,8 @@ refusedWith n s = answered n 0 0 s
 abbrev pub workedAnswer : Worked → Recounted
 workedAnswer w = answered 0 (w .halted) (w .taken) (w .session)
 
--- in the paper's order: a session that is not well formed; too little room for a record of each reply; else the records, laid over the buffer's
--- first octets
+-- in the paper's order: a session that is not well formed; too little room for a record of each reply; else the records, laid over the
+-- buffer's first octets
 unfoldable pub recountInto : LossSession → List ℕ → List ℕ → Wrote Recounted
 recountInto s octets buffer =
     choose (

@@ -1,5 +1,5 @@
--- Raw loss replies, and the session's line after each. A reply is four counts of 32 bits, little-endian, in the paper's order: TxFCf, RxFCf,
--- TxFCb and our own received count; each goes to the session by rule 7. Definitions only.
+-- Raw loss replies, and the session's line after each. A reply is four counts of 32 bits, little-endian, in the paper's order: TxFCf,
+-- RxFCf, TxFCb and our own received count; each goes to the session by rule 7. Definitions only.
 use Prim.Native.Nat.{ℕ, zero, suc, _+_, _/_}
 use mathlib.Core.List.{List, [], _∷_, _++_}
 use mathlib.Core.Bool.{cond}

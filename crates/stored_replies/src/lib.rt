@@ -24,8 +24,8 @@ use stored_line::LINE;
 use stored_line::LossLine;
 use stored_line_calls::write_line;
 
-// How far the replies were worked through. A call that is refused touched nothing; one that halted took what it tells, and that stands. No
-// call is both.
+// How far the replies were worked through. A refused call changed nothing; one that halted took the replies that it counts, and
+// keeps them. No call is both.
 pub struct Recounted {
     // 2 where the session is not well formed, then 3 where the buffer has no room for a record of each reply; else 0.
     pub refusal: u32,
@@ -68,7 +68,7 @@ fn put_record(into: &mut [u8], at: usize, s: LossSession)
     copy_octets(into, at, &stored);
 }
 
-// Where the work stands.
+// How far the work has come.
 fn worked_to(refusal: u32, halted: u32, taken: usize, session: LossSession) -> Recounted
     ensures { λ r. ⌜ r ≡ answered refusal halted taken session ⌝ }
 {
@@ -80,9 +80,9 @@ fn worked_to(refusal: u32, halted: u32, taken: usize, session: LossSession) -> R
     }
 }
 
-// Works through the whole replies of a chunk, from a session on, and writes their records into the front of the buffer. Octets behind the last whole
-// reply are not looked at. A refusal touches nothing. Where the session has no interval left for a reply the work halts there, and what
-// went before stands.
+// Works through the whole replies of a chunk, from a session on, and writes their records into the front of the buffer. Octets behind the
+// last whole reply are not looked at. A refusal changes nothing. Where the session has no interval left for a reply the work halts there,
+// and what was done before it stays.
 pub fn recount(into: &mut [u8], from: &[u8], session: LossSession) -> Recounted
     ensures { λ r. ⌜ wrote r (now (into .exit)) ≡ recountInto session (now (from .entry)) (now (into .entry)) ⌝ }
 {

@@ -1,6 +1,6 @@
--- The stored record of kind 1, settings, read and written. The paper, "Stored records" and "Refusals": reading gives 7, writing 4 and then 3; any
--- other value beside a refusal is 0; what is written reads back, and what is read writes back as the same octets. Definitions and the
--- statement only.
+-- The stored record of kind 1, settings, read and written. The paper, "Stored records" and "Refusals": reading gives 7, writing 4 and then
+-- 3; any other value beside a refusal is 0; what is written reads back, and what is read writes back as the same octets. Definitions and
+-- the statement only.
 use Prim.Native.Nat.{ℕ, _+_, _≤_, _<_}
 use mathlib.Core.Path.{_≡_}
 use mathlib.Core.List.{List, [], _∷_, _++_}
@@ -62,7 +62,7 @@ readSettings octets =
 unfoldable pub writeSettings : Settings → List ℕ → Wrote RecordAnswer
 writeSettings t buffer = writeRecord (valid t) 1 (settingsBody t) buffer
 
--- and the numbers that it is told in
+-- and its numbers
 abbrev pub settingsWrittenNumbers : Settings → List ℕ → RecordTold
 settingsWrittenNumbers t buffer = recordNumbers (valid t) (settingsBody t) buffer
 
@@ -75,7 +75,7 @@ pub record SettingsRecords : Type 0 where
   pub length-is : 2 + bodySize ≡ 83
   -- no number of valid settings is too large for its field
   pub fits : (t : Settings) → Valid t → Shaped slots t → FieldsHold t
-  -- settings that a body holds, valid or not, are read off their arrays as they stand
+  -- settings that a body holds, valid or not, are read off their arrays as they are
   pub taken : (body : List ℕ) → bodySize ≤ length body → settingsRead (given (settingsIn slots body)) ≡ settingsIn slots body
   -- 7 exactly where the head is wrong, the record is cut short, or the settings break a rule; and beside it every value is 0
   pub refuses-7 : (octets : List ℕ) → (readSettings octets .refusal ≡ 7) ↔ (NoRecord 1 bodySize octets ⊎ (Valid (settingsAt octets) → ⊥))
@@ -83,7 +83,7 @@ pub record SettingsRecords : Type 0 where
   -- else there is no refusal, and the settings in the record are given
   pub gives : (octets : List ℕ) → IsRecord 1 bodySize octets → Valid (settingsAt octets)
       → (readSettings octets .refusal ≡ 0) × (settingsRead (readSettings octets) ≡ settingsAt octets)
-  -- settings that are written read back, whatever stands behind them, and so from the buffer that they are written into
+  -- settings that are written read back, whatever is behind them, and so from the buffer that they are written into
   pub written : (t : Settings) (rest : List ℕ) → Valid t → Shaped slots t
       → (readSettings (settingsRecord t ++ rest) .refusal ≡ 0) × (settingsRead (readSettings (settingsRecord t ++ rest)) ≡ t)
   pub back : (t : Settings) (buffer : List ℕ) → Valid t → Shaped slots t → recordSize ≤ length buffer → settingsRead (readSettings (writeSettings t buffer .buffer)) ≡ t
@@ -91,9 +91,9 @@ pub record SettingsRecords : Type 0 where
   pub kept : (octets : List ℕ) → readSettings octets .refusal ≡ 0 → Valid (settingsRead (readSettings octets))
   pub again : (octets : List ℕ) → Octets octets → readSettings octets .refusal ≡ 0
       → part 0 recordSize octets ≡ settingsRecord (settingsRead (readSettings octets))
-  -- what stands behind the record is not looked at
+  -- what is behind the record is not looked at
   pub front-alone : (octets rest : List ℕ) → recordSize ≤ length octets → readSettings (octets ++ rest) ≡ readSettings octets
-  -- 4 exactly where a rule is broken, else 3 exactly where the buffer is shorter than the record; neither touches it
+  -- 4 exactly where a rule is broken, else 3 exactly where the buffer is shorter than the record; neither changes it
   pub refuses-4 : (t : Settings) (buffer : List ℕ) → Shaped slots t → (writeSettings t buffer .answer ≡ stored.BreaksRule) ↔ (Valid t → ⊥)
   pub refuses-3 : (t : Settings) (buffer : List ℕ) → Shaped slots t
       → (writeSettings t buffer .answer ≡ stored.NoRoom) ↔ (Valid t × (length buffer < recordSize))

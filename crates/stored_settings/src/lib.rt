@@ -1,4 +1,4 @@
-// The stored record of kind 1, settings: read into the three arrays in which settings lie, and written from them.
+// The stored record of kind 1, settings: read into the three arrays of settings, and written from them.
 // The answer of a read is a struct with the refusal's number in it, and no enum: an enum that holds an array is not covered by the
 // toolchain.
 ghost use mathlib.Core.Path.{_≡_};
@@ -38,7 +38,7 @@ fn none() -> SettingsRead
     }
 }
 
-// Reads the settings of the record at the octets' front; refusal 7 where there is none, or its settings break a rule. What stands behind the
+// Reads the settings of the record at the octets' front; refusal 7 where there is none, or its settings break a rule. What is behind the
 // record is not looked at.
 pub fn read_settings(from: &[u8]) -> SettingsRead
     ensures { λ r. ⌜ r ≡ readSettings (now (from .entry)) ⌝ }
@@ -64,7 +64,7 @@ pub fn write_settings(into: &mut [u8], set: &Set, names: &Names, ids: &Slots) ->
         × (recordTold r ≡ settingsWrittenNumbers (lentSettings set names ids) (now (into .entry))) ⌝ }
     ensures { λ _. ⌜ Shaped slots (lentSettings set names ids) ⌝ }
 {
-    // a view of an array tells its length, and costs nothing
+    // a view of an array has its length, and costs nothing
     let _names: &[u8] = names;
     let _ids: &[u32] = ids;
     let good = is_valid(set, names, ids);

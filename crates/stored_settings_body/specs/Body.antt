@@ -1,5 +1,5 @@
--- The body of a stored record of settings, for any number n of slots. The paper, "Stored records": level 1, MEP ID 2, own address 6, period code
--- 1, MEG ID 48, loss peer 6, peer count 1, the IDs of 2 each; addresses and MEG IDs in wire order. Definitions and the statement only.
+-- The body of a stored record of settings, for any number n of slots. The paper, "Stored records": level 1, MEP ID 2, own address 6, period
+-- code 1, MEG ID 48, loss peer 6, peer count 1, the IDs of 2 each; addresses and MEG IDs in wire order. Definitions and the statement only.
 use Prim.Native.Nat.{ℕ, zero, suc, _+_, _*_, _^_, _≤_, _<_}
 use mathlib.Core.Path.{_≡_}
 use mathlib.Core.List.{List, [], _∷_, _++_}
@@ -74,7 +74,7 @@ pub record FieldsHold (t : Settings) : Type 0 where
 -- for any number of slots, and kind 1 has as many as a box: settings come back from their body, and a body from its settings; where each
 -- ID is; how long both are
 pub record Bodies : Type 0 where
-  -- the ID of slot i stands in two octets, from place 2 i on
+  -- the ID of slot i is in two octets, from place 2 i on
   pub ids-at : (n : ℕ) (octets : List ℕ) (i : ℕ) → i < n → getD (idsIn n octets) i 0 ≡ fieldAt (2 * i) 2 octets
   -- IDs come back from their octets, and octets from their IDs
   pub ids-back : (ids : List ℕ) → ((i : ℕ) → getD ids i 0 < 2 ^ 16) → idsIn (length ids) (idsOctets ids) ≡ ids

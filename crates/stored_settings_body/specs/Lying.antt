@@ -1,4 +1,4 @@
--- How settings lie in memory: the words but the IDs, the names, the IDs. Definitions and the statement only.
+-- How settings are laid out in memory: the words but the IDs, the names, the IDs. Definitions and the statement only.
 use Prim.Native.Nat.{ℕ}
 use mathlib.Core.Path.{_≡_}
 use mathlib.Core.List.{List, [], _∷_, _++_}
@@ -14,15 +14,15 @@ setOf t = t .level ∷ t .mep ∷ t .period ∷ t .count ∷ []
 abbrev pub namesOf : Settings → List ℕ
 namesOf t = t .own ++ t .losspeer ++ t .meg
 
--- no refusal, and the settings as they lie in their arrays: an equation for each
+-- no refusal, and the settings in their arrays: an equation for each
 abbrev pub given : Settings → SettingsRead
 given t = record { refusal = 0; set = setOf t; names = namesOf t; ids = t .ids }
 
--- settings lie in their arrays in one way only, for any number of slots
+-- settings are laid out in their arrays in one way only, for any number of slots
 pub record Lying : Type 0 where
   -- settings of these lengths are read off as what they are
   pub back : (n : ℕ) (t : Settings) → Shaped n t → settingsOf (setOf t) (namesOf t) (t .ids) ≡ t
-  -- and arrays of their lengths hold nothing else: they lie in one way
+  -- and arrays of their lengths hold nothing else: they are laid out in one way
   pub again : (set names ids : List ℕ) → length set ≡ setWords → length names ≡ nameOctets
       → (setOf (settingsOf set names ids) ≡ set) × (namesOf (settingsOf set names ids) ≡ names)
   -- names of their length give them theirs

@@ -1,4 +1,4 @@
-// The body of a stored record of settings, read into the three arrays in which settings lie.
+// The body of a stored record of settings, read into the three arrays of settings.
 // Nothing is tested here.
 ghost use mathlib.Core.Path.{_≡_};
 ghost use Prim.Native.Nat.{_*_, _≤_};
@@ -23,7 +23,7 @@ pub const IDS: usize = 65;
 // The octets of the body.
 pub const BODY: usize = IDS + 2 * PEERS;
 
-// What reading a record is answered: the refusal, or 0, and the settings as they lie in their arrays, all 0 beside a refusal.
+// What reading a record is answered: the refusal, or 0, and the settings in their arrays, all 0 beside a refusal.
 #[repr(C)]
 pub struct SettingsRead {
     pub refusal: u32,
@@ -45,7 +45,7 @@ fn read_ids(ids: &mut [u32], from: &[u8])
     }
 }
 
-// The names of a body as they lie in memory: own address, loss peer, MEG ID.
+// The names of a body as they are in memory: own address, loss peer, MEG ID.
 fn names_of(body: &[u8]) -> Names
     requires { ⌜ bodyLength slots ≤ length (now body) ⌝ }
     ensures { λ r. ⌜ r ≡ namesOf (settingsIn slots (now (body .entry))) ⌝ }
@@ -57,7 +57,7 @@ fn names_of(body: &[u8]) -> Names
     names
 }
 
-// The settings that a body holds, taken as they stand: nothing is tested.
+// The settings that a body holds, taken as they are: nothing is tested.
 pub fn settings_of(body: &[u8; BODY]) -> SettingsRead
     ensures { λ r. ⌜ r ≡ given (settingsIn slots (now (body .entry))) ⌝ }
 {

@@ -1,4 +1,4 @@
-// The body of a stored record of settings, written from the three arrays in which settings lie.
+// The body of a stored record of settings, written from the three arrays of settings.
 // Nothing is tested here.
 ghost use mathlib.Core.List.{[]};
 ghost use mathlib.Core.Path.{_≡_};
@@ -55,7 +55,7 @@ fn put_fields(into: &mut [u8], set: &Set, names: &Names)
 pub fn body_of(set: &Set, names: &Names, ids: &Slots) -> [u8; BODY]
     ensures { λ r. ⌜ r ≡ settingsBody (lentSettings set names ids) ⌝ }
 {
-    // a view of an array tells its length, and costs nothing
+    // a view of an array has its length, and costs nothing
     let _all: &[u8] = names;
     let mut body = [0u8; BODY];
     put_fields(&mut body, set, names);

@@ -36,7 +36,7 @@ longestLine = 63
 
 -- ── what is meant ──
 
--- what is printed behind the header for these octets: nothing for none; the line of a good record, and what is printed for the rest; the
+-- what is printed after the header for these octets: nothing for none; the line of a good record, and what is printed for the rest; the
 -- refusal alone where no whole record of kind 2 begins, or its values break a rule
 pub data Prints : List ℕ → List ℕ → Type 0 where
   nothing-left : Prints [] []
@@ -78,7 +78,7 @@ sheetOf octets = headerText ++ textOf octets
 
 -- ── in chunks ──
 
--- what is printed for chunks one after another: no more behind one with a bad record
+-- what is printed for chunks one after another: no more after one with a bad record
 unfoldable pub chunksText : List (List ℕ) → List ℕ
 chunksText [] = []
 chunksText (chunk ∷ more) = textOf chunk ++ cond (allGood chunk) (chunksText more) []
@@ -88,7 +88,7 @@ unfoldable pub joined : List (List ℕ) → List ℕ
 joined [] = []
 joined (chunk ∷ more) = chunk ++ joined more
 
--- no record lies across two chunks: each holds whole records, but for the last
+-- no record is split between two chunks: each holds whole records, but for the last
 abbrev pub Whole : List (List ℕ) → Type 0
 Whole [] = Unit {0}
 Whole (chunk ∷ []) = Unit {0}

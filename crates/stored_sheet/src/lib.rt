@@ -1,4 +1,4 @@
-// The text of a sheet: what it is stands in specs/; its first line is all the code there is.
+// The text of a sheet: specs/ says what it is; its first line is all the code there is.
 ghost use mathlib.Core.Path.{_≡_};
 ghost use Rattle.stored_sheet.specs.Sheet.{headerText};
 

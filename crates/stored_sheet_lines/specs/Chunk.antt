@@ -13,7 +13,7 @@ use Rattle.stored_sheet_lines.specs.declared.Lines.{Lines}
 use Rattle.stored_sheet_lines.specs.declared.Lines.the-variants.{NoRoom, All, Stopped}
 use Rattle.stored_sheet.specs.Sheet.{textOf, allGood, longestLine}
 
--- the room that is asked for: a longest line has fewer than three octets for each of its record's 24
+-- the room that is needed: a longest line has fewer than three octets for each of its record's 24
 abbrev pub room : List ℕ → ℕ
 room octets = 3 * length octets + longestLine
 
@@ -33,10 +33,10 @@ writeLines octets buffer =
 pub record Chunks : Type 0 where
   -- the text has room there
   pub fits : (octets : List ℕ) → length (textOf octets) ≤ room octets
-  -- refused exactly where there is less room, and the buffer is not touched
+  -- refused exactly where there is less room, and the buffer is not changed
   pub no-room : (octets buffer : List ℕ) → (writeLines octets buffer .answer ≡ NoRoom) ↔ (length buffer < room octets)
   pub untouched : (octets buffer : List ℕ) → length buffer < room octets → writeLines octets buffer .buffer ≡ buffer
-  -- otherwise the text stands in front, and the answer tells whether a bad record was met
+  -- otherwise the text is in front, and the answer says whether a bad record was met
   pub written : (octets buffer : List ℕ) → room octets ≤ length buffer → writeLines octets buffer .buffer ≡ laid 0 (textOf octets) buffer
   pub all : (octets buffer : List ℕ) → room octets ≤ length buffer → allGood octets ≡ true → writeLines octets buffer .answer ≡ All (length (textOf octets))
   pub stopped : (octets buffer : List ℕ) → room octets ≤ length buffer → allGood octets ≡ false → writeLines octets buffer .answer ≡ Stopped (length (textOf octets))

@@ -83,8 +83,8 @@ fn put_next(into: &mut [u8], at: usize, from: &[u8]) -> Turn
     }
 }
 
-// Writes the text of a chunk of records into the front of the buffer: as far as the first bad one, if there is one. It asks for three
-// octets of room for each octet read and one line more, which is always enough, so that the text need not be measured first.
+// Writes the text of a chunk of records into the front of the buffer: as far as the first bad one, if there is one. It needs room for three
+// octets for each octet read and one line more, which is always enough, so that the text need not be measured first.
 pub fn write_lines(into: &mut [u8], from: &[u8]) -> Lines
     ensures { λ r. ⌜ wrote r (now (into .exit)) ≡ writeLines (now (from .entry)) (now (into .entry)) ⌝ }
 {

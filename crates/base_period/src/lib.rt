@@ -2,11 +2,12 @@
 // Two tables, `base_period.ticks_table` and `base_period.hold_table`; in the code they are constants that a match names: a table indexed at
 // run time would be copied to the stack first. That a hold time times 2 is its ticks times 7, for every code, is `base_period.hold_rule`,
 // computed once over both tables.
+#![tactic(auto)]
 ghost use Rattle.std.specs.Prelude.{◌≡◌};
 ghost use Rattle.base_period.specs.Periods.{ticks_of, hold_of, period_of};
 
 // A period: its ticks and its hold time. No period is 0 ticks and hold time 0.
-#[derive(Drop)]
+#[derive(Clone, Copy)]
 pub struct Period {
     pub ticks: u32,
     pub hold: u32,

@@ -1,11 +1,12 @@
 // Stamps of any content, as the wire and the caller have them: good, given. The paper, "Numbers".
 // Every crate that takes a stamp uses this one; only decisions on delays use `receive_delay`.
+#![tactic(auto)]
 ghost use Rattle.std.specs.Prelude.{◌≡◌};
 ghost use Rattle.base_stamp.specs.Stamps.{good, given};
 
 // A time as the wire has it. Any content is a value: too many nanoseconds are answered, not assumed away.
 #[repr(C)]
-#[derive(Drop)]
+#[derive(Clone, Copy)]
 pub struct Stamp {
     pub seconds: u32,
     pub nanoseconds: u32,

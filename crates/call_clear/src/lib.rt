@@ -1,6 +1,7 @@
 // A clear: the loss session starts again, and nothing else of the state changes.
 // Refusal 2 where the state is not well formed, and then nothing changes. No buffer is passed in. That nothing else ever changes,
 // whatever the answer, is `call_clear.clears`.
+#![tactic(auto)]
 ghost use Rattle.std.specs.Prelude.{[], ◌≡◌};
 ghost use Rattle.base_laws.specs.Ended.{ended};
 ghost use Rattle.state_view.specs.State.{before, after_session};
@@ -14,7 +15,7 @@ use state_view::{Run, Totals};
 use state_well_formed::is_well_formed;
 
 // What a clear is answered.
-#[derive(Drop)]
+#[derive(Clone, Copy)]
 pub enum ClearAnswer {
     // Refusal 2: the state is not well formed.
     NotWellFormed,
@@ -23,7 +24,7 @@ pub enum ClearAnswer {
 
 // An answer in the paper's numbers: the refusal, or 0.
 #[repr(C)]
-#[derive(Drop)]
+#[derive(Clone, Copy)]
 pub struct ClearTold {
     pub refusal: u32,
 }

@@ -2,6 +2,7 @@
 // Refusal 2 where the state is not well formed, and then every value beside it is 0. The call only reads the state, and no buffer is
 // passed in. The answer is a struct with the refusal's number in it, and no enum, since an enum that holds an array is not covered by the
 // toolchain: so there is no `tell`.
+#![tactic(auto)]
 ghost use Rattle.std.specs.Prelude.{◌≡◌};
 ghost use Rattle.state_settings.specs.Settings.{slots};
 ghost use Rattle.state_view.specs.State.{before};
@@ -16,7 +17,7 @@ use state_well_formed::is_well_formed;
 
 // Each condition, 1 while it is active and else 0; and the RDI that each peer last sent.
 #[repr(C)]
-#[derive(Drop)]
+#[derive(Clone, Copy)]
 pub struct ConditionFlags {
     pub lost: Slots,
     pub rdi: Slots,
@@ -30,7 +31,7 @@ pub struct ConditionFlags {
 
 // What the question is answered, in the paper's numbers: the refusal, or 0, and the conditions, all 0 beside a refusal.
 #[repr(C)]
-#[derive(Drop)]
+#[derive(Clone, Copy)]
 pub struct ConditionsTold {
     pub refusal: u32,
     pub conditions: ConditionFlags,

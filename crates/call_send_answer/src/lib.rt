@@ -1,13 +1,14 @@
 // What the three calls that send are answered, a tick, send LMM and send DMM, and the same in the paper's numbers.
 // Apart from the calls, so that a wrong number is tried in a crate of three matches. One struct serves all three: the
 // refusal and the length of what was written.
+#![tactic(auto)]
 ghost use Rattle.std.specs.Prelude.{◌≡◌};
 ghost use Rattle.call_send_answer.specs.Told.{tick_told, lmm_told, dmm_told};
 
 use message_parts::parts::WrittenTold;
 
 // What a tick is answered.
-#[derive(Drop)]
+#[derive(Clone, Copy)]
 pub enum TickAnswer {
     // Refusal 2: the state is not well formed.
     NotWellFormed,
@@ -20,7 +21,7 @@ pub enum TickAnswer {
 }
 
 // What is answered where an LMM is to be sent.
-#[derive(Drop)]
+#[derive(Clone, Copy)]
 pub enum LmmAnswer {
     // Refusal 2: the state is not well formed.
     NotWellFormed,
@@ -31,7 +32,7 @@ pub enum LmmAnswer {
 }
 
 // What is answered where a DMM is to be sent.
-#[derive(Drop)]
+#[derive(Clone, Copy)]
 pub enum DmmAnswer {
     // Refusal 2: the state is not well formed.
     NotWellFormed,

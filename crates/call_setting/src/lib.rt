@@ -4,6 +4,7 @@
 // try that; what is tried is the relation, in `paper_said` and `paper_order`. Beside refusal 4 the state that is returned is all zeros;
 // else it has the settings as they were lent, and all the rest starts again. The contract also says that the settings have the lengths of
 // their arrays.
+#![tactic(auto)]
 ghost use Rattle.std.specs.Prelude.{◌≡◌};
 ghost use Rattle.base_laws.specs.Lists.{on_first};
 ghost use Rattle.state_settings.specs.Settings.{slots, lent_settings, Shaped};
@@ -15,7 +16,7 @@ use state_settings::{COUNT, NAMES, Names, PEERS, PERIOD, SET, Set, Slots, is_val
 use state_view::{NEXT, RUN, StateArrays, TOTALS};
 
 // What a new setting is answered.
-#[derive(Drop)]
+#[derive(Clone, Copy)]
 pub enum SettingAnswer {
     // Refusal 4: it breaks a rule on its values.
     Invalid,
@@ -24,7 +25,7 @@ pub enum SettingAnswer {
 
 // An answer in the paper's numbers: the refusal, or 0.
 #[repr(C)]
-#[derive(Drop)]
+#[derive(Clone, Copy)]
 pub struct SettingTold {
     pub refusal: u32,
 }
@@ -40,7 +41,7 @@ pub fn tell(answer: SettingAnswer) -> SettingTold
 }
 
 // What a new setting is answered, and the state that it returns.
-#[derive(Drop)]
+#[derive(Clone, Copy)]
 pub struct Started {
     pub answer: SettingAnswer,
     pub state: StateArrays,
@@ -48,7 +49,7 @@ pub struct Started {
 
 // The same in the paper's numbers: the refusal, or 0, and the state, all zeros beside 4.
 #[repr(C)]
-#[derive(Drop)]
+#[derive(Clone, Copy)]
 pub struct NewBox {
     pub refusal: u32,
     pub state: StateArrays,

@@ -1,6 +1,7 @@
 // A tick: every timer is lowered, and on the last tick of a period a CCM is sent.
 // Refusals in this order: 2; 3, on a period's last tick where the buffer is shorter than 89 octets. A refused tick has not passed: no
 // timer is lowered, and as many ticks are left to the next CCM as before. A tick that sends nothing never gives 3, whatever the buffer.
+#![tactic(auto)]
 ghost use Rattle.std.specs.Prelude.{◌≡◌};
 ghost use Rattle.base_laws.specs.Ended.{ended};
 ghost use Rattle.state_view.specs.State.{before, after_tick};

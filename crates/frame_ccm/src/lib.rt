@@ -1,6 +1,7 @@
 // The fields of a CCM, its MEG ID among them.
 // All are 0, and the MEG ID is empty, where the frame is bad or another message; `frame_message::message_answer` says which. No public
 // function needs anything.
+#![tactic(auto)]
 ghost use Rattle.std.specs.Prelude.{◌≡◌, ◌+◌, ◌≤◌, length};
 ghost use Rattle.frame_ccm.specs.Ccm.{ccm_in, ccm_of, meg_in, meg_of, meg_place};
 
@@ -11,7 +12,7 @@ use frame_message::good_opcode;
 
 // A CCM's fields beside its MEG ID; the counts are TxFCf, RxFCb and TxFCb.
 #[repr(C)]
-#[derive(Drop)]
+#[derive(Clone, Copy)]
 pub struct CcmFields {
     pub sequence: u32,
     pub mep: u32,

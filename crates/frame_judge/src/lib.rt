@@ -2,6 +2,7 @@
 // These tests come before the TLVs in the paper's order; D5 is the walk's. They are given the PDU alone, wherever that is in a frame, need
 // nothing of their caller and answer for any octets. They are a step of the reader, so their answer has no numbers of its own. A caller
 // that has found the row of the opcode passes it in, so that it is looked up once.
+#![tactic(auto)]
 ghost use Rattle.std.specs.Prelude.{◌≡◌};
 ghost use Rattle.frame_judge.specs.Judge.{judge_by, judge_pdu};
 
@@ -9,7 +10,7 @@ use frame_opcodes::{Rule, rule_of};
 use frame_reader_answer::Bad;
 
 // What is before the TLVs: a reason, or the place of the PDU where they start.
-#[derive(Drop)]
+#[derive(Clone, Copy)]
 pub enum Head {
     Bad(Bad),
     Tlvs(usize),

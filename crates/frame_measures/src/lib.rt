@@ -1,6 +1,7 @@
 // The fields of the messages that measure: the counts of LMM and LMR, the stamps of DMM and DMR.
 // All are 0 where the frame is bad or another message; `frame_message::message_answer` says which. No public function needs
 // anything.
+#![tactic(auto)]
 ghost use Rattle.std.specs.Prelude.{◌≡◌, ◌≤◌, length};
 ghost use Rattle.frame_measures.specs.Measures.{loss_in, loss_of, delay_in, delay_of};
 
@@ -11,7 +12,7 @@ use frame_message::good_opcode;
 
 // The counts of an LMM or LMR: TxFCf, RxFCf and TxFCb.
 #[repr(C)]
-#[derive(Drop)]
+#[derive(Clone, Copy)]
 pub struct LossFields {
     pub txfcf: u32,
     pub rxfcf: u32,
@@ -20,7 +21,7 @@ pub struct LossFields {
 
 // The stamps of a DMM or DMR: TxTimeStampf, RxTimeStampf and TxTimeStampb.
 #[repr(C)]
-#[derive(Drop)]
+#[derive(Clone, Copy)]
 pub struct DelayFields {
     pub txtimestampf: Stamp,
     pub rxtimestampf: Stamp,

@@ -1,11 +1,12 @@
 // Which message a frame may be, or why it is none; and the same in the paper's numbers.
+#![tactic(auto)]
 ghost use Rattle.std.specs.Prelude.{◌≡◌};
 ghost use Rattle.frame_message_answer.specs.Told.{message_told};
 
 use frame_reader_answer::{Bad, TlvAnswer, tell as tell_reader};
 
 // Which message a frame is.
-#[derive(Drop)]
+#[derive(Clone, Copy)]
 pub enum MessageAnswer {
     // A good frame, by its opcode.
     Message(u8),
@@ -17,7 +18,7 @@ pub enum MessageAnswer {
 
 // An answer in the paper's numbers: the refusal, or 0; the drop, or 0; and the opcode of a good frame.
 #[repr(C)]
-#[derive(Drop)]
+#[derive(Clone, Copy)]
 pub struct MessageTold {
     pub refusal: u32,
     pub drop: u32,

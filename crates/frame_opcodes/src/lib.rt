@@ -1,11 +1,12 @@
 // The table of opcodes: all that an opcode decides, in one row.
 // The one match on an opcode; the reader and the box read its columns. It answers for any octet. The paper's lists of opcodes are laws of
 // this table, so no list can drift from another. Below the reader, so that a mistake in a row is tried without the reader's proof.
+#![tactic(auto)]
 ghost use Rattle.std.specs.Prelude.{◌≡◌};
 ghost use Rattle.frame_opcodes.specs.Opcodes.{rule_of};
 
 // Who handles a message.
-#[derive(Drop)]
+#[derive(Clone, Copy)]
 pub enum Handler {
     // Not in the paper's table.
     Nobody,
@@ -22,7 +23,7 @@ pub enum Handler {
 }
 
 // All that an opcode decides, a row of the table.
-#[derive(Drop)]
+#[derive(Clone, Copy)]
 pub struct Rule {
     pub handler: Handler,
     // The least TLV offset.

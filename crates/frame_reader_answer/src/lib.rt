@@ -1,10 +1,11 @@
 // What the reader answers, and why it cannot read a frame; both in the paper's numbers.
 // A bad frame's number is refusal 1, D1, D3, D4 or D5. Two matches, apart from the tests of a frame.
+#![tactic(auto)]
 ghost use Rattle.std.specs.Prelude.{◌≡◌};
 ghost use Rattle.frame_reader_answer.specs.Told.{bad_of, tlv_told};
 
 // Why a frame cannot be read.
-#[derive(Drop)]
+#[derive(Clone, Copy)]
 pub enum Bad {
     // Refusal 1: not from 14 to 1,514 octets.
     Length,
@@ -19,7 +20,7 @@ pub enum Bad {
 }
 
 // What the call beside the reader answers: a value, even an empty one, no such TLV, or a reason.
-#[derive(Drop)]
+#[derive(Clone, Copy)]
 pub enum TlvAnswer {
     Value,
     NoSuch,
@@ -28,7 +29,7 @@ pub enum TlvAnswer {
 
 // An answer in the paper's numbers: the refusal, or 0; the drop, or 0; and 1 where there is a value.
 #[repr(C)]
-#[derive(Drop)]
+#[derive(Clone, Copy)]
 pub struct TlvTold {
     pub refusal: u32,
     pub drop: u32,

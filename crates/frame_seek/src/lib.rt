@@ -1,6 +1,7 @@
 // The search for a TLV, and D5: where the value of the first one of a type is, or why it cannot be read; in a PDU, and in a frame.
 // A cut behind the wanted TLV is D5 too, so the walk goes to the end: from the wanted TLV on it is the same loop, for type 0, which stops
 // at nothing but the end or a cut. No function needs anything.
+#![tactic(auto)]
 ghost use Rattle.std.specs.Prelude.{◌≡◌};
 ghost use Rattle.frame_seek.specs.Seek.{seek_in, seek_of, Within};
 
@@ -10,7 +11,7 @@ use frame_reader_answer::Bad;
 use frame_tlvs::{Place, tlvs_whole, walk};
 
 // What a search for a TLV finds: a reason, no such TLV, or where its value is.
-#[derive(Drop)]
+#[derive(Clone, Copy)]
 pub enum Seek {
     Bad(Bad),
     NoSuch,

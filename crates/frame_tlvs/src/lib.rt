@@ -2,13 +2,14 @@
 // It knows of no frame, no opcode and no state, and answers for any octets, any type and any place. The TLVs are said twice: as a
 // grammar, `frame_tlvs.Tlvs`, of what is there (a type, two octets of length, a value; the End TLV; padding), and as a walk that says
 // where the code stops.
+#![tactic(auto)]
 ghost use Rattle.std.specs.Prelude.{◌≡◌};
 ghost use Rattle.frame_tlvs.specs.Tlvs.{walk_from, Inside, tlvs_whole};
 
 use base_numbers::read_big;
 
 // Where a walk over the TLVs stops: at type 0, at the wanted type (its value's start and length), or at a cut.
-#[derive(Drop)]
+#[derive(Clone, Copy)]
 pub enum Place {
     End(usize),
     Found { start: usize, len: usize },

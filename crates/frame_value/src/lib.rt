@@ -1,6 +1,7 @@
 // What the value of a TLV holds: the octets of a data TLV, the zeros of a test TLV; the answer on it, and the same in the paper's numbers.
 // The value is the part of the frame that the reader returns; nothing is copied, and nothing is needed of the caller. A test TLV without
 // any octet has no pattern type, so it does not hold type 0.
+#![tactic(auto)]
 ghost use Rattle.std.specs.Prelude.{◌≡◌};
 ghost use Rattle.frame_value.specs.Told.{value_told};
 ghost use Rattle.frame_value.specs.Values.{zero_pattern, outcome_of, same_data, zero_test};
@@ -11,7 +12,7 @@ use frame_reader::{tlv_answer, tlv_value};
 use frame_reader_answer::{Bad, TlvAnswer, tell as tell_reader};
 
 // What a value was found to be.
-#[derive(Drop)]
+#[derive(Clone, Copy)]
 pub enum ValueAnswer {
     // It is what was asked for.
     Holds,
@@ -25,7 +26,7 @@ pub enum ValueAnswer {
 
 // An answer in the paper's numbers: those of the reader, and 1 where the value is what was asked for.
 #[repr(C)]
-#[derive(Drop)]
+#[derive(Clone, Copy)]
 pub struct ValueTold {
     pub refusal: u32,
     pub drop: u32,

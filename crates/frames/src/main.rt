@@ -3,6 +3,7 @@
 // begins a comment, so a fitter can type it. Each line prints its message with the fields, or `refused N` or `dropped N`, and after a bar
 // what the reader says of the TLV. A line that is not octets is named on standard error too. Any argument gets a usage line there, and
 // nothing is printed. The test input has a reason above each frame, decided from the papers and not from the program.
+#![tactic(auto)]
 use base_stamp::Stamp;
 use frame_ccm::{ccm_fields, meg_id};
 use frame_head::{level, version};
@@ -159,7 +160,7 @@ fn show(frame: &[u8], kind: u8) {
 const LINE: usize = 2048;
 
 // How far a line has been read.
-#[derive(Drop)]
+#[derive(Clone, Copy)]
 struct Marks {
     // The line's number, counted from 1.
     number: u64,
@@ -284,7 +285,7 @@ fn end_line(line: &[u8; LINE], marks: Marks) {
 }
 
 // The marks after a chunk of input, and whether more may come.
-#[derive(Drop)]
+#[derive(Clone, Copy)]
 struct Turn {
     marks: Marks,
     more: bool,

@@ -3,6 +3,7 @@
 // words are written as they are. The session of a well-formed state keeps the rules of a line, so the writer's refusal 4 never comes
 // (`linkbox_line.LossLines`). Any content of the memory is accepted. The caller must pass pointers to memory of these sizes, and what is
 // written must overlap nothing else that is passed in.
+#![tactic(auto)]
 ghost use Rattle.std.specs.Prelude.{◌≡◌};
 ghost use Rattle.base_laws.specs.Ended.{wrote};
 ghost use Rattle.state_view.specs.State.{before, session_in};

@@ -1,6 +1,7 @@
 // The boundary to C: the reader of TLVs, answered in the paper's numbers.
 // It is for firmware in C or Rust; linkbox.h declares it. It calls the Rattle function of the same call and returns its answer in numbers.
 // Any content of the memory is accepted. The caller must pass a pointer to memory of this size.
+#![tactic(auto)]
 ghost use Rattle.std.specs.Prelude.{◌≡◌};
 ghost use Rattle.frame_reader_answer.specs.Told.{tlv_told};
 ghost use Rattle.frame_seek.specs.Seek.{seek_of};
@@ -11,7 +12,7 @@ use frame_seek::{Seek, seek_frame};
 
 // A TLV in the paper's numbers: the refusal, or 0; the drop, or 0; 1 where there is a value; and where in the frame it is.
 #[repr(C)]
-#[derive(Drop)]
+#[derive(Clone, Copy)]
 pub struct TlvAt {
     pub refusal: u32,
     pub drop: u32,

@@ -4,3 +4,4 @@
 // others are 0. One law serves all calls on a box: what agrees with the outcome of our box agrees with the paper's. Of a new setting it
 // says two things: what is returned is the paper's, and so is what a caller holds who takes it over unless it is refused. A side that is
 // neither 0 nor 1 is the passive one, as in the code: the paper has no refusal for it.
+#![tactic(auto)]

@@ -3,6 +3,7 @@
 // or Rust; linkbox_raw.h declares them. Each calls the Rattle function of the same call and returns its answer in numbers. Any content of
 // the memory is accepted. The caller must pass pointers to memory of these sizes, and what is written must overlap nothing else that is
 // passed in.
+#![tactic(auto)]
 ghost use Rattle.std.specs.Prelude.{◌≡◌};
 ghost use Rattle.base_laws.specs.Ended.{ended, told_by};
 ghost use Rattle.state_view.specs.State.{before, after_tick};

@@ -4,3 +4,4 @@
 // direction is said once, near and far are it twice: each needs a premise on its own two counts alone, and the intervals need none.
 // `paper_loss.Demand3` is the same demand on a whole box; that crate has definitions of the same names.
 // Without code, so an edit of a statement is tried in seconds.
+#![tactic(auto)]

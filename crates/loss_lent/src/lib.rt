@@ -3,6 +3,7 @@
 // call, in the order's words: from a cleared session on, the results, both totals and the intervals are the account's, for at most
 // 1,000,000,001 readings of true counts; after these a reading is refused with 5 and changes nothing. The one function that is lent a
 // struct is `linkbox_session::linkbox_measure`, whose long proof by hand would else be repeated for every edit of the rule.
+#![tactic(auto)]
 ghost use Rattle.loss_session.specs.Session.{readings};
 ghost use Rattle.loss_lent.specs.Lent.{reading_of};
 ghost use Rattle.std.specs.Prelude.{◌≡◌};
@@ -11,7 +12,7 @@ use loss_reading::LossTold;
 use loss_session::{LossSession, Readings};
 
 // A reading in the paper's numbers, and the session after it.
-#[derive(Drop)]
+#[derive(Clone, Copy)]
 pub struct Answered {
     pub told: LossTold,
     pub session: LossSession,

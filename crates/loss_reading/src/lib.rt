@@ -3,13 +3,14 @@
 // exactly then and leaves the session as it was. In numbers a first reading looks like a measured interval of 0 and 0: refusal 0, results
 // 0 and 0. No other two answers look alike, and a caller in Rattle can tell the cases apart. Beside a refusal every other value is 0. The
 // code that takes the reading is apart, in `loss_step`, so that a mistake in what is said here is tried without it.
+#![tactic(auto)]
 ghost use Rattle.std.specs.Prelude.{◌≡◌};
 ghost use Rattle.loss_reading.specs.Told.{loss_told};
 
 use loss_session::LossSession;
 
 // What one more reading is answered.
-#[derive(Drop)]
+#[derive(Clone, Copy)]
 pub enum LossAnswer {
     // Refusal 2: the session is not well formed.
     NotWellFormed,
@@ -22,7 +23,7 @@ pub enum LossAnswer {
 }
 
 // An answer and the session after it.
-#[derive(Drop)]
+#[derive(Clone, Copy)]
 pub struct Updated {
     pub answer: LossAnswer,
     pub session: LossSession,
@@ -30,7 +31,7 @@ pub struct Updated {
 
 // An answer in the paper's numbers: the refusal, or 0, and the two results.
 #[repr(C)]
-#[derive(Drop)]
+#[derive(Clone, Copy)]
 pub struct LossTold {
     pub refusal: u32,
     pub near: i64,

@@ -1,4 +1,5 @@
 // A loss session: its readings, its intervals and its signed totals; cleared, and well formed. Rule 7 of the paper.
+#![tactic(auto)]
 ghost use Rattle.std.specs.Prelude.{◌≡◌, nat_abs};
 ghost use Rattle.loss_session.specs.Session.{cleared_session, all_zero, well_formed};
 
@@ -8,7 +9,7 @@ ghost use Rattle.loss_session.specs.Session.{cleared_session, all_zero, well_for
 //   txb    TxFCb, those that the peer had sent when it answered
 //   ours   those that we had received when the answer came
 #[repr(C)]
-#[derive(Drop)]
+#[derive(Clone, Copy)]
 pub struct Readings {
     pub txf: u32,
     pub rxf: u32,
@@ -19,7 +20,7 @@ pub struct Readings {
 // A loss session: whether a reading is kept (0 or 1), the intervals measured, the reading kept, and both totals. Any content is a
 // value; what is not well formed is refused.
 #[repr(C)]
-#[derive(Drop)]
+#[derive(Clone, Copy)]
 pub struct LossSession {
     pub kept: u32,
     pub intervals: u32,

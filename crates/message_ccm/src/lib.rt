@@ -1,6 +1,7 @@
 // The CCM, written into the caller's buffer, with our own address and MEG ID.
 // It is made of what is given and of no state, and needs nothing of its caller: it is given our names as the settings keep them, and
 // takes our own address and the MEG ID from there. Buffer and answer are as in `message_parts`.
+#![tactic(auto)]
 ghost use Rattle.std.specs.Prelude.{◌≡◌, ◌≤◌, length};
 ghost use Rattle.base_laws.specs.Lists.{part, laid};
 ghost use Rattle.frame_head.specs.Head.{behind_head};
@@ -23,7 +24,7 @@ pub const CCM_LENGTH: usize = 89;
 //   rxfcb   RxFCb, those that we had received when the peer's last CCM came
 //   txfcb   TxFCb, those that the peer had sent, as that CCM said
 #[repr(C)]
-#[derive(Drop)]
+#[derive(Clone, Copy)]
 pub struct CcmValues {
     pub level: u32,
     pub rdi: u32,

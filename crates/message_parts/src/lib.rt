@@ -3,4 +3,5 @@
 // the message is in the first octets, and every octet behind it is as it was (`message_parts.written_of`, `message_parts.buffer_of`, in
 // numbers `message_parts.written_numbers`). Values are cut to their fields, so no caller can make one write into its neighbour. The
 // `requires` here are about lengths alone: six octets of address, and room in the buffer.
+#![tactic(auto)]
 pub mod parts;

@@ -10,7 +10,7 @@ use base_stamp::Stamp;
 use frame_head::HEAD_LENGTH;
 
 // What writing a message is answered.
-#[derive(Drop)]
+#[derive(Clone, Copy)]
 pub enum Written {
     // Refusal 3: the buffer is shorter than the message.
     NoRoom,
@@ -20,7 +20,7 @@ pub enum Written {
 
 // An answer in the paper's numbers: the refusal, or 0, and the message's length.
 #[repr(C)]
-#[derive(Drop)]
+#[derive(Clone, Copy)]
 pub struct WrittenTold {
     pub refusal: u32,
     pub length: usize,

@@ -5,6 +5,7 @@
 // so it is as long as the request and keeps its padding. Twelve octets are written twice; in return the definition says "all other octets
 // are kept" by its form. A reply is made of what is given and of no state. Nothing is needed of the caller: that a good request never
 // gets this D5 is a theorem. The writers take our address by value, six octets, so that its type has the length.
+#![tactic(auto)]
 ghost use Rattle.std.specs.Prelude.{◌≡◌, ◌+◌, ◌≤◌, length};
 ghost use Rattle.base_laws.specs.Lists.{part, laid};
 ghost use Rattle.message_reply.specs.Replies.{reply_into};
@@ -19,7 +20,7 @@ const OPCODE: usize = HEAD_LENGTH + 1;
 const PDU_HEAD_END: usize = HEAD_LENGTH + 4;
 
 // What writing a reply is answered.
-#[derive(Drop)]
+#[derive(Clone, Copy)]
 pub enum Replied {
     // D5: the request ends before its fixed part does. Never given to a frame that was judged before.
     CutOff,

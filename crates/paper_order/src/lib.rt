@@ -3,3 +3,4 @@
 // holds of every box that follows it in `paper_promised`, demand 3 in `paper_loss` with counterexamples in `paper_wrong_boxes`, time in
 // `paper_time`, the calls beside the box in `paper_beside`, and what C calls in `linkbox_said`. All of them come together here, on one
 // page.
+#![tactic(auto)]

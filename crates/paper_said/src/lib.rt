@@ -5,3 +5,4 @@
 // decide do it by chains of tests; the relation states conditions on numbers and lists, and that each pair agrees is shown here, so a
 // reader needs the conditions alone. Lengths are those of the arrays: a state has eight slots, six octets in an address and 48 in a MEG
 // ID; the records of the definitions could be longer, and where that matters a definition says so.
+#![tactic(auto)]

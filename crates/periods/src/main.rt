@@ -1,5 +1,6 @@
 // Prints the paper's table: each period code with its name, its ticks and its hold time.
 // Codes 0 and 8 show that others have none. Any argument gets a usage line on standard error, and nothing is printed.
+#![tactic(auto)]
 use libc::{STDERR_FILENO, STDOUT_FILENO};
 
 // The period's name in ten columns.

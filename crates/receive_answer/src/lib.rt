@@ -1,11 +1,12 @@
 // What a frame is answered: a case for each line of the paper's tables, and the same in the paper's numbers.
 // What was done has a number of ours, 1 to 7, beside the paper's refusals, drops and values: these alone do not distinguish a frame that
 // passes from one that is taken in, nor a first reading from an interval without loss.
+#![tactic(auto)]
 ghost use Rattle.std.specs.Prelude.{◌≡◌};
 ghost use Rattle.receive_answer.specs.Told.{drop_of, absent, tell_frame, frame_told};
 
 // Why a frame is dropped.
-#[derive(Drop)]
+#[derive(Clone, Copy)]
 pub enum Drop {
     // D1: an OAM frame shorter than 18.
     Short,
@@ -26,7 +27,7 @@ pub enum Drop {
 }
 
 // What a frame is answered.
-#[derive(Drop)]
+#[derive(Clone, Copy)]
 pub enum FrameAnswer {
     // Refusal 2: the state is not well formed.
     NotWellFormed,
@@ -57,7 +58,7 @@ pub enum FrameAnswer {
 // An answer in the paper's numbers: the refusal, or 0; the drop, or 0; what was done (below), or 0 beside a refusal or a drop; the
 // reply's length; near and far loss; two-way delay, one-way far and one-way near. What is not formed is 0.
 #[repr(C)]
-#[derive(Drop)]
+#[derive(Clone, Copy)]
 pub struct FrameTold {
     pub refusal: u32,
     pub drop: u32,

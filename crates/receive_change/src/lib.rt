@@ -1,6 +1,7 @@
 // What a frame changes in a state, in its arrays: the one place where a frame changes a state. Rules 1, 3, 5 and 7 of the paper.
 // Of a loss reply, in this order: refusal 2 where the session is not well formed, which `receive_frame` has ruled out by then; 5 where
 // the reply would start interval 1,000,000,001. Neither changes anything.
+#![tactic(auto)]
 ghost use Rattle.std.specs.Prelude.{◌≡◌, []};
 ghost use Rattle.base_laws.specs.Ended.{ended};
 ghost use Rattle.state_view.specs.State.{before, after, after_session};
@@ -18,7 +19,7 @@ use state_settings::{Names, PERIOD, Set, Slots};
 use state_view::{RECEIVED, Run, SENT, Totals, UNEXPECTED_LEVEL, session_of};
 
 // What a frame changes in the state.
-#[derive(Drop)]
+#[derive(Clone, Copy)]
 pub enum Change {
     // Rule 1: one more service frame, from the passive side or the active.
     Sent,

@@ -2,20 +2,21 @@
 // This is the first thing decided about a frame. It looks at the level that is set, the side, the length, the EtherType and the first
 // octet of the PDU, and at nothing else. It is a step and not an answer, so it has no numbers. What is shorter than a head counts as
 // service; `receive_frame` has refused it with 1 before. The side is an enum, so a caller in Rattle has no third one.
+#![tactic(auto)]
 ghost use Rattle.std.specs.Prelude.{◌≡◌};
 ghost use Rattle.receive_class.specs.Class.{by_side, class_of};
 
 use frame_head::{HEAD_LENGTH, is_oam, level};
 
 // Where a frame comes from: the link, or the equipment on our own end.
-#[derive(Drop)]
+#[derive(Clone, Copy)]
 pub enum Side {
     Active,
     Passive,
 }
 
 // What a frame is to the box.
-#[derive(Drop)]
+#[derive(Clone, Copy)]
 pub enum Class {
     // No OAM frame: it passes and is counted.
     Service,

@@ -3,6 +3,7 @@
 // side and the receive stamp, and no other part of the state, so nothing else can bear on the decision. A frame is decided first and
 // carried out after. A change is one case of the decision and not a second answer beside it: a drop, a pass or a reply could else come
 // with a change that does not belong to it. Rule 3's drop, which changes something, is a change whose answer is D2.
+#![tactic(auto)]
 ghost use Rattle.std.specs.Prelude.{◌≡◌, ◌≤◌, length, true};
 ghost use Rattle.frame_head.specs.Head.{behind_head, oam_frame, pdu_of, opcode_of};
 ghost use Rattle.frame_opcodes.specs.Opcodes.{rule_of};
@@ -24,7 +25,7 @@ use receive_handle::{Decision, handle_message};
 use state_settings::{LEVEL, LOSSPEER, MEG, Names, Set, Slots};
 
 // What is found of a frame of our level: a reason to drop it, or none.
-#[derive(Drop)]
+#[derive(Clone, Copy)]
 enum Looked {
     Drops(Drop),
     Good,

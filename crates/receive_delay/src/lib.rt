@@ -1,6 +1,7 @@
 // Delay measurement: the delays of a reply in signed nanoseconds, from stamps of any content. Rule 8 of the paper.
 // The caller's nanoseconds are not judged here: refusal 6 has done that before a frame is read, and the delay of any receive stamp fits
 // in 64 bits. In numbers a two-way result looks the same as three delays whose one-way parts are 0. Beside a drop every other value is 0.
+#![tactic(auto)]
 ghost use Rattle.std.specs.Prelude.{◌≡◌, ◌≤◌, nat_abs, ◌-ℤ◌};
 ghost use Rattle.std.specs.Int.{w64};
 ghost use Rattle.std.proofs.Common.{SFits};
@@ -11,7 +12,7 @@ ghost use Rattle.receive_delay.specs.Told.{delay_told, delay_numbers};
 use base_stamp::{Stamp, given_stamp, good_stamp};
 
 // What a delay reply is answered.
-#[derive(Drop)]
+#[derive(Clone, Copy)]
 pub enum DelayAnswer {
     // D7: a stamp that it uses has too many nanoseconds, or the caller's receive stamp is not given.
     BadStamp,

@@ -2,6 +2,7 @@
 // No state is looked at. A step of `receive_decide`, which has judged the frame: a good message has its fixed part. Its length is tested
 // again here, so that nothing is needed of the caller; that a frame that was judged never gets this D5 is part of the proof of
 // `receive_decide`.
+#![tactic(auto)]
 ghost use Rattle.std.specs.Prelude.{◌≡◌, ◌+◌, ◌≤◌, length};
 ghost use Rattle.frame_head.specs.Head.{flags_of};
 ghost use Rattle.frame_message.specs.Message.{period_code};
@@ -22,7 +23,7 @@ use receive_signals::Signal;
 use state_settings::{Names, Set, Slots};
 
 // What is done with a frame.
-#[derive(Drop)]
+#[derive(Clone, Copy)]
 pub enum Decision {
     // It is dropped, and nothing changes.
     Drops(Drop),

@@ -1,6 +1,7 @@
 // The answer to a request: the reply written from the request, our address, our counts and the caller's stamps. Rule 6 of the paper.
 // D5 where the request ends before its fixed part does, which `receive_decide` has ruled out by then; refusal 3 where the buffer is
 // shorter than the reply. Nothing changes by either. The state is only read.
+#![tactic(auto)]
 ghost use Rattle.std.specs.Prelude.{◌≡◌};
 ghost use Rattle.state_settings.specs.Settings.{own_named};
 ghost use Rattle.state_view.specs.State.{before};
@@ -16,7 +17,7 @@ use state_settings::{Names, Set, Slots};
 use state_view::{RECEIVED, Run, SENT, Totals};
 
 // A message that is answered.
-#[derive(Drop)]
+#[derive(Clone, Copy)]
 pub enum Request {
     Loopback,
     Loss,

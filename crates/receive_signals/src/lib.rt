@@ -1,4 +1,5 @@
 // What a CCM, AIS or LCK of our level says, and the timers that it sets. Rule 5 of the paper.
+#![tactic(auto)]
 ghost use Rattle.std.specs.Prelude.{◌≡◌};
 ghost use Rattle.std.proofs.Math.ListN as ListN;
 ghost use Rattle.state_view.specs.State.{before, after_signal};
@@ -10,7 +11,7 @@ use state_settings::{Names, PERIOD, Set, Slots};
 use state_view::{AIS, LCK, MISMERGE, Run, Totals, UNEXPECTED_MEP, UNEXPECTED_PERIOD};
 
 // What a message says.
-#[derive(Drop)]
+#[derive(Clone, Copy)]
 pub enum Signal {
     // A CCM of another MEG.
     Mismerge,

@@ -4,6 +4,7 @@
 // begins, and at the end how many replies were worked, is said on standard error, since standard output holds records and nothing else.
 // Any argument gets a usage line there, and nothing is written. What is written for a chunk of replies is proved in `stored_replies`. The
 // loop ends by a count of turns, which starts at 2^64 - 1, since a loop must be shown to end and nothing says that the input does.
+#![tactic(auto)]
 ghost use Rattle.std.specs.Prelude.{◌<◌};
 
 use libc::{STDERR_FILENO, STDIN_FILENO, STDOUT_FILENO};
@@ -18,7 +19,7 @@ const CHUNK: usize = 16384;
 const ROOM: usize = CHUNK / REPLY * LINE;
 
 // The session after a chunk, and whether more may come.
-#[derive(Drop)]
+#[derive(Clone, Copy)]
 struct Turn {
     session: LossSession,
     more: bool,

@@ -4,14 +4,14 @@ use state_settings::{NAMES, PEERS, SET};
 use state_view::{RUN, StateArrays, TOTALS};
 
 // The state and the lent session.
-#[derive(Drop)]
+#[derive(Clone, Copy)]
 pub(crate) struct Held {
     pub(crate) state: StateArrays,
     pub(crate) session: LossSession,
 }
 
 // What is held after a call, and how long its line is so far.
-#[derive(Drop)]
+#[derive(Clone, Copy)]
 pub(crate) struct Ran {
     pub(crate) held: Held,
     pub(crate) length: usize,

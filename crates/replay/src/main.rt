@@ -5,6 +5,7 @@
 // handler takes what is held, lends the state's seven arrays from there, and returns what is then held; what a new setting returns
 // becomes the held state. 267 calls `loss_lent::answer`, since no caller that lends a struct is covered by the toolchain. A part at a
 // fixed place of a call is read from the program's array of 2,000 octets, so no handler tests a length.
+#![tactic(auto)]
 mod body;
 mod held;
 mod line;
@@ -33,7 +34,7 @@ use state_view::StateArrays;
 const LINE: usize = 4096;
 
 // What is held from call to call, whether more may come, and the octets after the length of the call that was run.
-#[derive(Drop)]
+#[derive(Clone, Copy)]
 struct Turn {
     held: Held,
     more: bool,

@@ -4,6 +4,7 @@
 // an empty month. What is printed for a chunk of records is proved in `stored_sheet_lines`; here is only the reading and the writing. The
 // buffer is as large as a chunk needs, so too little room is never answered. The loop ends by a count of turns, which starts at
 // 2^64 - 1, since a loop must be shown to end and nothing says that the input does.
+#![tactic(auto)]
 use libc::{STDERR_FILENO, STDIN_FILENO, STDOUT_FILENO};
 use stored_sheet::header;
 use stored_sheet_lines::{LONGEST, Lines, write_lines};

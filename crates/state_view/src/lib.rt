@@ -3,6 +3,7 @@
 // said here, as rules, one field each (`state_view.WellFormed`), and as a test (`state_view.well_formed`), and both agree; `state_timers`,
 // `state_slots` and `state_well_formed` carry the test out. A word is 32 bits wide, whatever its range, so that any content is a value
 // that can be refused.
+#![tactic(auto)]
 ghost use Rattle.std.specs.Prelude.{◌≡◌};
 ghost use Rattle.state_view.specs.State.{session_in};
 
@@ -56,7 +57,7 @@ pub const FAR: usize = 1;
 
 // A state in its seven arrays: settings' words, names, peers' IDs; peers' timers, peers' RDI, running words, totals.
 #[repr(C)]
-#[derive(Drop)]
+#[derive(Clone, Copy)]
 pub struct StateArrays {
     pub set: Set,
     pub names: Names,

@@ -1,5 +1,6 @@
 // What a stored loss line is, kind 2, and what reading and writing one give, in cases and in the paper's numbers.
 // It holds the two totals of a session and the intervals that they cover.
+#![tactic(auto)]
 ghost use Rattle.std.specs.Prelude.{◌≡◌};
 ghost use Rattle.stored_line.specs.LineCalls.{line_told};
 
@@ -8,7 +9,7 @@ pub const LINE: usize = 24;
 
 // A loss line.
 #[repr(C)]
-#[derive(Drop)]
+#[derive(Clone, Copy)]
 pub struct LossLine {
     pub near: i64,
     pub far: i64,
@@ -16,7 +17,7 @@ pub struct LossLine {
 }
 
 // What reading a loss line is answered.
-#[derive(Drop)]
+#[derive(Clone, Copy)]
 pub enum LineAnswer {
     // Refusal 7: no whole record of kind 2, or its values break a rule.
     Refused,
@@ -26,7 +27,7 @@ pub enum LineAnswer {
 
 // An answer in the paper's numbers: the refusal, or 0, and the line's values.
 #[repr(C)]
-#[derive(Drop)]
+#[derive(Clone, Copy)]
 pub struct LineTold {
     pub refusal: u32,
     pub intervals: u32,

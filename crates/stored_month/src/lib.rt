@@ -6,3 +6,4 @@
 // (`stored_month.account_line`), and one interval fewer than replies; the sheet of the records is the account's (`stored_month.sheet`);
 // after 1,000,000,001 replies the work halts with 5 at the next (`stored_month.full`); the grain quay's two replies print a near loss of
 // -1 (`stored_month.grain_quay`).
+#![tactic(auto)]

@@ -4,6 +4,7 @@
 // two-octet length field, that counts the kind too, cannot express; 3, the buffer is shorter than the record. Neither changes the buffer;
 // else the record is in the first octets, and every octet behind it is as it was. The head is tested and written here for every kind, so
 // 4 before 3 is said once. No function needs anything.
+#![tactic(auto)]
 ghost use Rattle.std.specs.Prelude.{◌≡◌, ◌+◌, ◌≤◌, length};
 ghost use Rattle.stored_record.specs.Writing.{record_told, write_record, record_numbers};
 ghost use Rattle.base_laws.specs.Ended.{wrote};
@@ -14,7 +15,7 @@ use base_numbers::{read_little, write_little};
 use base_octets::copy_octets;
 
 // What writing a record is answered.
-#[derive(Drop)]
+#[derive(Clone, Copy)]
 pub enum RecordAnswer {
     // Refusal 4: what is to be written breaks a rule on its values.
     BreaksRule,
@@ -26,7 +27,7 @@ pub enum RecordAnswer {
 
 // An answer in the paper's numbers: the refusal, or 0, and the record's length.
 #[repr(C)]
-#[derive(Drop)]
+#[derive(Clone, Copy)]
 pub struct RecordTold {
     pub refusal: u32,
     pub length: usize,

@@ -5,6 +5,7 @@
 // its answer says so in a word of its own, halted, with the paper's number 5: the replies before it are taken and their records written
 // (`stored_replies.worked`), that one and those after it are not taken. A halt is no refusal, since a refused call would leave
 // everything, and no call is both; to refuse the whole chunk would lose good lines. Octets behind the last whole reply are not looked at.
+#![tactic(auto)]
 ghost use Rattle.std.specs.Prelude.{◌≡◌, ◌+◌, ◌≤◌, length, drop};
 ghost use Rattle.base_laws.specs.Ended.{wrote};
 ghost use Rattle.base_laws.specs.Lists.{laid};
@@ -22,7 +23,7 @@ use stored_line_calls::write_line;
 
 // How far the replies were worked through. A refused call changed nothing; one that halted took the replies that it counts, and
 // keeps them. No call is both.
-#[derive(Drop)]
+#[derive(Clone, Copy)]
 pub struct Recounted {
     // 2 where the session is not well formed, then 3 where the buffer has no room for a record of each reply; else 0.
     pub refusal: u32,

@@ -1,5 +1,6 @@
 // The body of a stored record of settings, read into the three arrays of settings.
 // Nothing is tested here.
+#![tactic(auto)]
 ghost use Rattle.std.specs.Prelude.{◌≡◌, ◌*◌, ◌≤◌, length};
 ghost use Rattle.state_settings.specs.Settings.{slots};
 ghost use Rattle.stored_settings_body.specs.Body.{ids_in, body_length, settings_in};
@@ -17,7 +18,7 @@ pub const BODY: usize = IDS + 2 * PEERS;
 
 // What reading a record is answered: the refusal, or 0, and the settings in their arrays, all 0 beside a refusal.
 #[repr(C)]
-#[derive(Drop)]
+#[derive(Clone, Copy)]
 pub struct SettingsRead {
     pub refusal: u32,
     pub set: Set,

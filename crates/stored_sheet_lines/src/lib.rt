@@ -1,4 +1,5 @@
 // The text of a chunk of records, written into a buffer: a line for each loss record, and the refusal at a bad one.
+#![tactic(auto)]
 ghost use Rattle.std.specs.Prelude.{◌≡◌, ◌+◌, ◌-◌, ◌≤◌, length, set};
 ghost use Rattle.base_laws.specs.Ended.{wrote};
 ghost use Rattle.base_laws.specs.Lists.{laid};
@@ -16,7 +17,7 @@ use stored_line_calls::read_line;
 pub const LONGEST: usize = 63;
 
 // What the text of some records is answered.
-#[derive(Drop)]
+#[derive(Clone, Copy)]
 pub enum Lines {
     // The buffer may be too short for it, and nothing was read.
     NoRoom,
@@ -27,7 +28,7 @@ pub enum Lines {
 }
 
 // How far a record's text reaches, and whether the record was good.
-#[derive(Drop)]
+#[derive(Clone, Copy)]
 struct Turn {
     at: usize,
     good: bool,

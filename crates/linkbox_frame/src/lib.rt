@@ -30,8 +30,7 @@ fn side_of(number: u32) -> Side
 }
 
 // A frame from a side, 0 for the active one and any other number for the passive one; a reply is written into the front of the buffer.
-#[unsafe(no_mangle)]
-pub extern "C" fn linkbox_raw_frame(
+pub fn linkbox_raw_frame(
     set: &Set,
     names: &Names,
     ids: &Slots,

@@ -30,8 +30,7 @@ fn line_of(run: &Run, totals: &Totals) -> LossLine
 }
 
 // Writes the session's loss line as a record into the front of the buffer; refusal 2, then 3.
-#[unsafe(no_mangle)]
-pub extern "C" fn linkbox_raw_loss_line(
+pub fn linkbox_raw_loss_line(
     set: &Set,
     names: &Names,
     ids: &Slots,

@@ -37,8 +37,7 @@ fn placed(answer: TlvAnswer, start: usize, length: usize) -> TlvAt
 }
 
 // The first TLV of a type in a frame: whether there is a value, where in the frame it is and how long it is, 0 and 0 where there is none.
-#[unsafe(no_mangle)]
-pub extern "C" fn linkbox_tlv(frame: &[u8], kind: u8) -> TlvAt
+pub fn linkbox_tlv(frame: &[u8], kind: u8) -> TlvAt
     ensures { result ≡ tlv_at (seek_of frame.now kind) }
 {
     match seek_frame(frame, kind) {

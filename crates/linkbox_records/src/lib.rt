@@ -16,16 +16,14 @@ use stored_record::RecordTold;
 use stored_settings_body::SettingsRead;
 
 // The settings of a stored record, or refusal 7 and zeros.
-#[unsafe(no_mangle)]
-pub extern "C" fn linkbox_read_settings(from: &[u8]) -> SettingsRead
+pub fn linkbox_read_settings(from: &[u8]) -> SettingsRead
     ensures { result ≡ read_settings from.now }
 {
     stored_settings::read_settings(from)
 }
 
 // Writes settings as a record into the front of the buffer.
-#[unsafe(no_mangle)]
-pub extern "C" fn linkbox_raw_write_settings(
+pub fn linkbox_raw_write_settings(
     into: &mut [u8],
     set: &Set,
     names: &Names,
@@ -40,8 +38,7 @@ pub extern "C" fn linkbox_raw_write_settings(
 }
 
 // The loss line of a stored record, or refusal 7 and zeros.
-#[unsafe(no_mangle)]
-pub extern "C" fn linkbox_read_line(from: &[u8]) -> LineTold
+pub fn linkbox_read_line(from: &[u8]) -> LineTold
     ensures { result ≡ line_numbers from.now }
 {
     let answer = stored_line_calls::read_line(from);
@@ -49,8 +46,7 @@ pub extern "C" fn linkbox_read_line(from: &[u8]) -> LineTold
 }
 
 // Writes a loss line as a record into the front of the buffer.
-#[unsafe(no_mangle)]
-pub extern "C" fn linkbox_write_line(into: &mut [u8], line: LossLine) -> RecordTold
+pub fn linkbox_write_line(into: &mut [u8], line: LossLine) -> RecordTold
     ensures { wrote result into.new ≡ told_by record_told (write_line line into.old) }
 {
     let answer = stored_line_calls::write_line(into, line);

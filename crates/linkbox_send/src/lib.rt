@@ -25,8 +25,7 @@ use state_view::{NEXT, Run, Totals};
 use state_well_formed::is_well_formed;
 
 // A tick; the last of a period writes a CCM into the front of the buffer.
-#[unsafe(no_mangle)]
-pub extern "C" fn linkbox_raw_tick(
+pub fn linkbox_raw_tick(
     set: &Set,
     names: &Names,
     ids: &Slots,
@@ -45,8 +44,7 @@ pub extern "C" fn linkbox_raw_tick(
 }
 
 // Writes an LMM into the front of the buffer.
-#[unsafe(no_mangle)]
-pub extern "C" fn linkbox_raw_send_lmm(
+pub fn linkbox_raw_send_lmm(
     set: &Set,
     names: &Names,
     ids: &Slots,
@@ -64,8 +62,7 @@ pub extern "C" fn linkbox_raw_send_lmm(
 }
 
 // Writes a DMM with the caller's stamp into the front of the buffer.
-#[unsafe(no_mangle)]
-pub extern "C" fn linkbox_raw_send_dmm(
+pub fn linkbox_raw_send_dmm(
     set: &Set,
     names: &Names,
     ids: &Slots,
@@ -85,8 +82,7 @@ pub extern "C" fn linkbox_raw_send_dmm(
 }
 
 // How many ticks are left to the next CCM, the one that writes it counted: 1 or more; 0 where the state is not well formed.
-#[unsafe(no_mangle)]
-pub extern "C" fn linkbox_raw_ticks_to_next(
+pub fn linkbox_raw_ticks_to_next(
     set: &Set,
     names: &Names,
     ids: &Slots,

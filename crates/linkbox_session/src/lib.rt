@@ -12,8 +12,7 @@ use loss_session::LossSession;
 
 // One more reading of the lent loss session: the one function that is lent a struct. It only calls and stores. After a refusal the session
 // is what it was and is not stored: the compiler then reads and writes on each way only what that way needs.
-#[unsafe(no_mangle)]
-pub extern "C" fn linkbox_measure(
+pub fn linkbox_measure(
     session: &mut LossSession,
     txf: u32,
     rxf: u32,

@@ -20,8 +20,7 @@ use state_settings::{NAMES, Names, PEERS, SET, Set, Slots};
 use state_view::{RUN, Run, TOTALS, Totals};
 
 // A new setting, from settings that are only read. The caller takes the new state, or keeps its own where it is refused.
-#[unsafe(no_mangle)]
-pub extern "C" fn linkbox_raw_new_setting(set: &Set, names: &Names, ids: &Slots) -> NewBox
+pub fn linkbox_raw_new_setting(set: &Set, names: &Names, ids: &Slots) -> NewBox
     ensures value { result ≡ new_box set.now names.now ids.now }
     ensures shaped { Shaped slots (lent_settings set names ids) }
 {
@@ -29,8 +28,7 @@ pub extern "C" fn linkbox_raw_new_setting(set: &Set, names: &Names, ids: &Slots)
 }
 
 // A clear of the loss session; returns 0, or refusal 2.
-#[unsafe(no_mangle)]
-pub extern "C" fn linkbox_raw_clear(
+pub fn linkbox_raw_clear(
     set: &Set,
     names: &Names,
     ids: &Slots,
@@ -49,8 +47,7 @@ pub extern "C" fn linkbox_raw_clear(
 }
 
 // The conditions, each by itself.
-#[unsafe(no_mangle)]
-pub extern "C" fn linkbox_raw_conditions(
+pub fn linkbox_raw_conditions(
     set: &Set,
     names: &Names,
     ids: &Slots,
@@ -66,8 +63,7 @@ pub extern "C" fn linkbox_raw_conditions(
 
 // How many octets a box has: its words of four octets, its names, its totals of eight, and no padding. It is the archive's own number, so
 // a caller that was compiled against another header can see it.
-#[unsafe(no_mangle)]
-pub extern "C" fn linkbox_abi() -> usize
+pub fn linkbox_abi() -> usize
     ensures { result ≡ box_octets }
 {
     4 * (SET + 3 * PEERS + RUN) + NAMES + 8 * TOTALS

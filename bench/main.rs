@@ -145,11 +145,11 @@ macro_rules! compiled {
                 set: *const Set, names: *const Names, ids: *const Slots, timers: *const Slots, rdi: *const Slots,
                 run: *const Run, totals: *const Totals,
             ) -> ConditionsTold;
-            fn $measure(session: *mut LossSession, reading: Readings) -> LossTold;
+            fn $measure(session: *mut LossSession, txf: u32, rxf: u32, txb: u32, ours: u32) -> LossTold;
             fn $read_settings(from: *const u8, length: usize) -> SettingsRead;
             fn $write_settings(into: *mut u8, room: usize, set: *const Set, names: *const Names, ids: *const Slots) -> Written;
             fn $read_line(from: *const u8, length: usize) -> LineTold;
-            fn $write_line(into: *mut u8, room: usize, near: i64, far: i64, intervals: u32) -> Written;
+            fn $write_line(into: *mut u8, room: usize, line: LossLine) -> Written;
             #[cfg(tlv)]
             fn $tlv(frame: *const u8, length: usize, kind: u8) -> TlvTold;
         }
@@ -199,7 +199,7 @@ macro_rules! compiled {
 
             #[inline(always)]
             fn measure(session: &mut LossSession, now: Readings) -> LossTold {
-                unsafe { $measure(session, now) }
+                unsafe { $measure(session, now.txf, now.rxf, now.txb, now.ours) }
             }
 
             #[inline(always)]
@@ -219,7 +219,7 @@ macro_rules! compiled {
 
             #[inline(always)]
             fn write_line(line: LossLine, into: &mut [u8]) -> Written {
-                unsafe { $write_line(into.as_mut_ptr(), into.len(), line.near, line.far, line.intervals) }
+                unsafe { $write_line(into.as_mut_ptr(), into.len(), line) }
             }
 
             #[cfg(tlv)]

@@ -3,8 +3,6 @@
 //! The caller sees to it that every pointer is to memory of the size that is named and that what a call writes overlaps nothing else that
 //! is passed in. A slice is a pointer, never null, and a length. Any content of the memory is a value.
 
-use core::mem::{align_of, size_of};
-
 /// How many peers a box has room for.
 pub const PEERS: usize = 8;
 /// How many words the settings are, octets the names, running words a box has, totals of loss.
@@ -50,12 +48,12 @@ pub struct Arrays {
     pub totals: Totals,
 }
 
-/// What a new setting is answered: the box that the settings start, all zero beside refusal 4, and the refusal, or 0.
+/// What a new setting is answered: the refusal, or 0, and the box that the settings start, all zero beside refusal 4.
 #[repr(C)]
 #[derive(Clone, Copy, PartialEq, Eq, Debug)]
 pub struct NewBox {
-    pub arrays: Arrays,
     pub refusal: u32,
+    pub arrays: Arrays,
 }
 
 /// A time as the wire has it. All zero means "not given".
@@ -120,7 +118,8 @@ pub struct SettingsRead {
     pub settings: SettingArrays,
 }
 
-/// A loss line: near and far totals, and the intervals that they count. C is passed its three numbers.
+/// A loss line: near and far totals, and the intervals that they count.
+#[repr(C)]
 #[derive(Clone, Copy, PartialEq, Eq, Debug, Default)]
 pub struct LossLine {
     pub near: i64,
@@ -180,19 +179,17 @@ pub struct TlvTold {
 }
 
 // The sizes that linkbox_raw.h asserts too.
-const _: () = {
-    let word = size_of::<usize>();
-    assert!(word == 8 || word == 4, "lengths have 64 bits or 32");
-    assert!(size_of::<Arrays>() == 248 && size_of::<SettingArrays>() == 108, "a box and its settings have no padding");
-    assert!(size_of::<NewBox>() == 256 && align_of::<Arrays>() == 8, "a new setting: the box, then the refusal");
-    assert!(size_of::<Stamp>() == 8 && size_of::<Written>() == 2 * word && size_of::<FrameTold>() == 48 + 2 * word);
-    assert!(size_of::<ConditionFlags>() == 88 && size_of::<ConditionsTold>() == 92 && size_of::<SettingsRead>() == 112);
-    assert!(size_of::<LineTold>() == 24);
-    assert!(size_of::<LossSession>() == 40 && size_of::<LossTold>() == 24);
-    assert!(size_of::<TlvTold>() == 8 + 3 * word);
-};
+const WORD: usize = size_of::<usize>();
+const _: () = assert!(WORD == 8 || WORD == 4, "lengths have 64 bits or 32");
+const _: () = assert!(size_of::<Arrays>() == 248 && size_of::<SettingArrays>() == 108, "a box and its settings have no padding");
+const _: () = assert!(size_of::<NewBox>() == 256 && core::mem::offset_of!(NewBox, arrays) == 8);
+const _: () = assert!(size_of::<Stamp>() == 8 && size_of::<Written>() == 2 * WORD && size_of::<FrameTold>() == 48 + 2 * WORD);
+const _: () = assert!(size_of::<ConditionFlags>() == 88 && size_of::<ConditionsTold>() == 92 && size_of::<SettingsRead>() == 112);
+const _: () = assert!(size_of::<LossLine>() == 24 && size_of::<LineTold>() == 24);
+const _: () = assert!(size_of::<LossSession>() == 40 && size_of::<LossTold>() == 24);
+const _: () = assert!(size_of::<TlvTold>() == 8 + 3 * WORD);
 
-extern "C" {
+unsafe extern "C" {
     /// A new setting: the box that these settings start, or refusal 4 and zeros. Writes nothing.
     pub fn linkbox_raw_new_setting(set: *const Set, names: *const Names, ids: *const Slots) -> NewBox;
 
@@ -248,7 +245,7 @@ extern "C" {
     pub fn linkbox_abi() -> usize;
 
     /// One more reading of a lent session. Writes the session.
-    pub fn linkbox_measure(session: *mut LossSession, reading: Readings) -> LossTold;
+    pub fn linkbox_measure(session: *mut LossSession, txf: u32, rxf: u32, txb: u32, ours: u32) -> LossTold;
 
     /// The settings of a stored record, or refusal 7 and zeros. Writes nothing.
     pub fn linkbox_read_settings(from: *const u8, length: usize) -> SettingsRead;
@@ -262,7 +259,7 @@ extern "C" {
     pub fn linkbox_read_line(from: *const u8, length: usize) -> LineTold;
 
     /// Writes a loss line as a record into `into`.
-    pub fn linkbox_write_line(into: *mut u8, room: usize, near: i64, far: i64, intervals: u32) -> Written;
+    pub fn linkbox_write_line(into: *mut u8, room: usize, line: LossLine) -> Written;
 
     /// The first TLV of a type in a frame. Writes nothing.
     pub fn linkbox_tlv(frame: *const u8, length: usize, kind: u8) -> TlvTold;

@@ -23,18 +23,9 @@
 //! ```
 #![no_std]
 
-#[cfg(feature = "std")]
-extern crate std;
-
 pub mod ffi;
 
-// Error is in core since Rust 1.81; with an older compiler the feature `std` takes the same trait from std.
-#[cfg(not(feature = "std"))]
-use core::error::Error;
-#[cfg(feature = "std")]
-use std::error::Error;
-
-use core::{fmt, mem::size_of};
+use core::fmt;
 use ffi::SettingArrays;
 pub use ffi::{Arrays, LossLine, LossSession, PEERS, RUN, Readings, Stamp};
 
@@ -95,7 +86,7 @@ impl fmt::Display for Refusal {
     }
 }
 
-impl Error for Refusal {}
+impl core::error::Error for Refusal {}
 
 /// Why a frame was dropped: D1 to D8. Requests will add numbers, so a match needs an arm for the rest.
 #[derive(Clone, Copy, PartialEq, Eq, Debug)]
@@ -155,7 +146,7 @@ impl fmt::Display for Dropped {
     }
 }
 
-impl Error for Dropped {}
+impl core::error::Error for Dropped {}
 
 /// Where a frame came in.
 #[derive(Clone, Copy, PartialEq, Eq, Debug)]
@@ -508,7 +499,7 @@ impl LinkBox {
 impl LossSession {
     /// One more reading: the losses of the interval that it ends, both 0 for the first after a clear. Refusals 2 and 5.
     pub fn measure(&mut self, now: Readings) -> Result<Losses, Refusal> {
-        let told = unsafe { ffi::linkbox_measure(self, now) };
+        let told = unsafe { ffi::linkbox_measure(self, now.txf, now.rxf, now.txb, now.ours) };
         Refusal::of(told.refusal)?;
         Ok(Losses { near: told.near, far: told.far })
     }
@@ -524,7 +515,7 @@ impl LossLine {
 
     /// Writes it as a record into the front of a buffer, and gives the record. Refusals 4 and 3.
     pub fn write(self, into: &mut [u8]) -> Result<&[u8], Refusal> {
-        let told = unsafe { ffi::linkbox_write_line(into.as_mut_ptr(), into.len(), self.near, self.far, self.intervals) };
+        let told = unsafe { ffi::linkbox_write_line(into.as_mut_ptr(), into.len(), self) };
         written(told, into)
     }
 }

@@ -20,7 +20,7 @@
 
 /* The version of this header. The requests of the firm will add calls, refusals and words of the
  * state; linkbox_fits says whether the archive's box is as long. */
-#define LINKBOX_VERSION "2.0.0"
+#define LINKBOX_VERSION "1.0.0"
 
 #ifdef __cplusplus
 #define LINKBOX_HOLDS(what, says) static_assert(what, says)
@@ -197,6 +197,13 @@ struct linkbox_settings_answer {
     struct linkbox_settings settings;
 };
 
+/* The values of a loss line, to be written. */
+struct linkbox_line {
+    int64_t near_loss;
+    int64_t far_loss;
+    uint32_t intervals;
+};
+
 /* The values of a loss line that was read from a record. */
 struct linkbox_line_answer {
     uint32_t refusal;
@@ -246,8 +253,8 @@ size_t linkbox_abi(void);
 /* One more reading of a session apart. The first after a clear is only kept; later, near loss is
  * the growth of txb less that of ours, far loss the growth of txf less that of rxf, each added to
  * its total. Refusals 2 and 5. Writes the session. */
-struct linkbox_loss_answer linkbox_measure(struct linkbox_session *session,
-                                           struct linkbox_readings reading);
+struct linkbox_loss_answer linkbox_measure(struct linkbox_session *session, uint32_t txf,
+                                           uint32_t rxf, uint32_t txb, uint32_t ours);
 
 /* The settings of a stored record (kind 1, 85 octets) at the front of `length` octets; the rest is
  * not looked at. Refusal 7. Writes nothing. */
@@ -258,8 +265,7 @@ struct linkbox_settings_answer linkbox_read_settings(const uint8_t *from, size_t
 struct linkbox_line_answer linkbox_read_line(const uint8_t *from, size_t length);
 
 /* Writes a loss line as a record into the front of `room` octets. Refusals 4 and 3. Writes into. */
-struct linkbox_written linkbox_write_line(uint8_t *into, size_t room, int64_t near_loss,
-                                          int64_t far_loss, uint32_t intervals);
+struct linkbox_written linkbox_write_line(uint8_t *into, size_t room, struct linkbox_line line);
 
 /* The value of the first TLV of a type in a frame: `length` octets from frame[start] on. Only
  * refusal 1, D1, D3 (a service frame, or an opcode that is not known), D4 and D5 are tested; there

@@ -13,8 +13,8 @@
 /* The answer to a new setting: the box that the settings start, all zero beside refusal 4. The
  * caller takes it over, or keeps its own where it is refused. */
 struct linkbox_raw_new_box {
-    struct linkbox box;
     uint32_t refusal;
+    struct linkbox box;
 };
 
 struct linkbox_raw_new_box linkbox_raw_new_setting(const uint32_t *set, const uint8_t *names,
@@ -107,7 +107,7 @@ LINKBOX_HOLDS(sizeof(struct linkbox_settings) == 108, "settings have no padding"
 /* The answers. */
 #define LINKBOX_WORD sizeof(size_t)
 LINKBOX_HOLDS(LINKBOX_WORD == 8 || LINKBOX_WORD == 4, "lengths have 64 bits or 32");
-LINKBOX_HOLDS(offsetof(struct linkbox_raw_new_box, refusal) == 248, "a new setting: box, refusal");
+LINKBOX_HOLDS(offsetof(struct linkbox_raw_new_box, box) == 8, "a new setting: the box at 8");
 LINKBOX_HOLDS(sizeof(struct linkbox_raw_new_box) == 256, "a new setting has 256 octets");
 LINKBOX_HOLDS(sizeof(struct linkbox_stamp) == 8, "a stamp is two words");
 LINKBOX_HOLDS(offsetof(struct linkbox_written, length) == LINKBOX_WORD, "written: then the length");
@@ -121,6 +121,8 @@ LINKBOX_HOLDS(offsetof(struct linkbox_conditions_answer, lck) == 88, "LCK last")
 LINKBOX_HOLDS(sizeof(struct linkbox_conditions_answer) == 92, "conditions have 92 octets");
 LINKBOX_HOLDS(offsetof(struct linkbox_settings_answer, settings) == 4, "settings at 4");
 LINKBOX_HOLDS(sizeof(struct linkbox_settings_answer) == 112, "settings read have 112 octets");
+LINKBOX_HOLDS(offsetof(struct linkbox_line, intervals) == 16, "a line: intervals last");
+LINKBOX_HOLDS(sizeof(struct linkbox_line) == 24, "a line has 24 octets");
 LINKBOX_HOLDS(offsetof(struct linkbox_line_answer, near_loss) == 8, "a line read: losses at 8");
 LINKBOX_HOLDS(sizeof(struct linkbox_line_answer) == 24, "a line read has 24 octets");
 LINKBOX_HOLDS(sizeof(struct linkbox_readings) == 16, "four readings are four words");

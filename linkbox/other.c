@@ -58,11 +58,10 @@ void inner_read_settings(struct linkbox_settings_answer *, const struct part *)
     __asm__("linkbox_records::linkbox_read_settings");
 void inner_read_line(struct linkbox_line_answer *, const struct part *)
     __asm__("linkbox_records::linkbox_read_line");
-void inner_write_line(struct wide_written *, const struct part *, int64_t, int64_t, uint32_t)
+void inner_write_line(struct wide_written *, const struct part *, const struct linkbox_line *)
     __asm__("linkbox_records::linkbox_write_line");
-void inner_measure(struct linkbox_loss_answer *, struct linkbox_session *,
-                   const struct linkbox_readings *)
-    __asm__("linkbox_session::linkbox_measure");
+void inner_measure(struct linkbox_loss_answer *, struct linkbox_session *, uint32_t, uint32_t,
+                   uint32_t, uint32_t) __asm__("linkbox_session::linkbox_measure");
 void inner_tlv(struct wide_tlv *, const struct part *, uint8_t)
     __asm__("linkbox_reader::linkbox_tlv");
 
@@ -168,18 +167,17 @@ struct linkbox_line_answer linkbox_read_line(const uint8_t *from, size_t length)
     return answer;
 }
 
-struct linkbox_written linkbox_write_line(uint8_t *into, size_t room, int64_t near_loss,
-                                          int64_t far_loss, uint32_t intervals) {
+struct linkbox_written linkbox_write_line(uint8_t *into, size_t room, struct linkbox_line line) {
     const struct part record = {into, room};
     struct wide_written w;
-    inner_write_line(&w, &record, near_loss, far_loss, intervals);
+    inner_write_line(&w, &record, &line);
     return narrow(w);
 }
 
-struct linkbox_loss_answer linkbox_measure(struct linkbox_session *session,
-                                           struct linkbox_readings reading) {
+struct linkbox_loss_answer linkbox_measure(struct linkbox_session *session, uint32_t txf,
+                                           uint32_t rxf, uint32_t txb, uint32_t ours) {
     struct linkbox_loss_answer answer;
-    inner_measure(&answer, session, &reading);
+    inner_measure(&answer, session, txf, rxf, txb, ours);
     return answer;
 }
 

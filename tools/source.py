@@ -6,13 +6,14 @@ from pathlib import Path
 
 ROOT = Path(__file__).resolve().parent.parent
 LIST, PROGRAMS = "crates.txt", "programs"
-WING, CRATE = re.compile(r"# ([a-z]+_) +(\S.*)"), re.compile(r"(\w+):(.*)")
+WING, CRATE = re.compile(r"# ([a-z]+_) +(\S.*)"), re.compile(r"(\w+)(?: +staticlib)? *:(.*)")
 NOT_CODE = re.compile(r"""//.*|"(?:\\.|[^"\\])*"|'(?:\\.|[^'\\])'""")
 ITEM = re.compile(r"^[ \t]*(pub )?(?:extern +)?(fn|struct|enum|const|mod|impl)\b(?:<[^>]*>)? (\w+)|[{};]", re.M)
 CLAUSE = re.compile(r"\b(?:requires|ensures)\b|[{}]")
 SUBJECT = re.compile(r"# (?:\w+::)?([^\s:]+): (\S[^`|]*)")
 BLOCK = re.compile(r"^(?:(?:abbrev|unfoldable|pub) )*(?:(record|data) ([^\s:(){}]+)|([^\s:(){}]+) :(?= |$))(.*)", re.M)
-USE = re.compile(r"^(?:ghost )?use Rattle·(\w+)(?:·\w+)?\.(?:specs|proofs)\.[^\s{]*?(?:\.\{([^}]*)\}| as ([^\s;]+));?$", re.M)
+USE = re.compile(r"^(?:ghost )?use Rattle\.(\w+)\.(?:specs|proofs)\.[^\s{]*?(?:\.\{([^}]*)\}| as ([^\s;]+));?$", re.M)
+PLACES = {"now", "old", "new"}  # of a parameter: what stands before them is no definition
 
 Item = namedtuple("Item", "full name path line public at")
 Function = namedtuple("Function", "full name path line comment clauses text")
@@ -31,7 +32,7 @@ USES = {m.group(1): (line, m.group(2).split()) for line, text in lines(LIST) for
 
 def listed():
     """The crates of crates.txt, in its order."""
-    return [name.strip() for name in (re.split("[:#]", text)[0] for _, text in lines(LIST)) if name.strip()]
+    return [m.group(1) for _, text in lines(LIST) for m in [CRATE.match(text)] if m]
 
 
 def main_file(crate):
@@ -102,8 +103,9 @@ def clauses(text, start):
 def above(text, line, mark):
     """The comment that stands right above a line, as one text; attributes may stand between them."""
     found, rows = [], [row.strip() for row in text.split("\n")[:line - 1]]
-    while rows and rows[-1].startswith("#["):
-        rows.pop()
+    while rows and rows[-1].endswith("]") and any(row.startswith("#[") for row in rows[-5:]):
+        while not rows.pop().startswith("#["):
+            pass
     while rows and rows[-1].startswith(mark):
         found.insert(0, rows.pop()[len(mark):].strip())
     return " ".join(found)
@@ -136,7 +138,7 @@ def named(part, text):
         known.update({item.split(" as ")[-1].strip(): (crate, item.split(" as ")[0].strip()) for item in several.split(",")})
     plain = re.sub("(?:--|//).*|^(?:ghost )?use .*", "", part, flags=re.M)
     words = [word.rstrip(".").partition(".") for word in re.findall(r"[^\s(){}\[\];,]+", plain)]
-    alone = {known[first] for first, dot, _ in words if first in known and not dot}
+    alone = {known[first] for first, _, rest in words if first in known and rest.split(".")[0] not in PLACES}
     return alone | {(whole[first], rest) for first, _, rest in words if first in whole}
 
 
@@ -150,7 +152,7 @@ def definitions(crates):
             name, part, line = m.group(2) or m.group(3), text[m.start():end], text.count("\n", 0, m.start()) + 1
             said = re.split(rf"\n{re.escape(name)} ", re.sub("--.*", "", part))[0]
             is_type = bool(m.group(1) or re.search(r"[:→] Type \d\s*$", said))
-            names = named(part, f"{text}\nuse Rattle·{crate}.specs.Own.{{{own}}}")
+            names = named(part, f"{text}\nuse Rattle.{crate}.specs.Own.{{{own}}}")
             before = found.get((crate, name))  # two files of a crate may use one name
             if before:
                 is_type, names = is_type or before.is_type, names | before.names

@@ -33,10 +33,10 @@ fn next_ccm<'a>(sender: &mut LinkBox, out: &'a mut [u8]) -> Result<&'a [u8], Ref
 /// Hands a message to the other end, and its reply back.
 fn exchange(asking: &mut LinkBox, answering: &mut LinkBox, request: &[u8]) -> Result<String, Refusal> {
     let (mut there, mut here) = ([0; 1514], [0; 1514]);
-    match answering.frame(Side::Active, request, at(400), at(900), &mut there)? {
-        FrameAnswer::Replied(reply) => Ok(format!("{:?}", asking.frame(Side::Active, reply, at(1_200), NONE, &mut here)?)),
-        _ => Ok("no reply".to_string()),
-    }
+    let FrameAnswer::Replied(reply) = answering.frame(Side::Active, request, at(400), at(900), &mut there)? else {
+        return Ok("no reply".to_string());
+    };
+    Ok(format!("{:?}", asking.frame(Side::Active, reply, at(1_200), NONE, &mut here)?))
 }
 
 fn main() -> Result<(), Refusal> {

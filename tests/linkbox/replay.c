@@ -406,7 +406,7 @@ static void put_session(struct held *held, struct call *call) {
 /* 267 */
 static void measure(struct held *held, struct call *call) {
     struct linkbox_readings now = take_readings(&call->body);
-    struct linkbox_loss_answer told = linkbox_measure(&held->session, now);
+    struct linkbox_loss_answer told = linkbox_measure(&held->session, now.txf, now.rxf, now.txb, now.ours);
     if (print_refused(told.refusal)) return;
     print_losses(told.near_loss, told.far_loss);
     print_text(" session ");
@@ -440,11 +440,12 @@ static void read_line(struct call *call) {
 
 /* 271 */
 static void write_line(struct held *held, struct call *call) {
+    struct linkbox_line line;
     take(&call->body, 2);
-    const int64_t near_loss = take_signed(&call->body);
-    const int64_t far_loss = take_signed(&call->body);
-    const uint32_t intervals = take_word(&call->body, 4);
-    struct linkbox_written told = linkbox_write_line(held->buffer, call->room, near_loss, far_loss, intervals);
+    line.near_loss = take_signed(&call->body);
+    line.far_loss = take_signed(&call->body);
+    line.intervals = take_word(&call->body, 4);
+    struct linkbox_written told = linkbox_write_line(held->buffer, call->room, line);
     print_sent(told.refusal, told.length);
 }
 
@@ -483,11 +484,11 @@ static void answer(struct held *held, struct call *call) {
 static int line_follows(const struct linkbox *box) {
     uint8_t own[LINKBOX_LEN_LINE_RECORD] = {0}, wanted[LINKBOX_LEN_LINE_RECORD] = {0};
     const uint32_t refusal = linkbox_conditions(box).refusal;
-    const int64_t near_loss = linkbox_near_total(box), far_loss = linkbox_far_total(box);
+    const struct linkbox_line line = {linkbox_near_total(box), linkbox_far_total(box), linkbox_intervals(box)};
     const uint32_t short_by_one = linkbox_loss_line(box, own, sizeof own - 1).refusal;
     if (short_by_one != (refusal != 0 ? refusal : LINKBOX_REFUSED_ROOM) || !same_octets(own, wanted, sizeof own)) return 0;
     const struct linkbox_written told = linkbox_loss_line(box, own, sizeof own);
-    if (refusal == 0 && linkbox_write_line(wanted, sizeof wanted, near_loss, far_loss, linkbox_intervals(box)).length != told.length) return 0;
+    if (refusal == 0 && linkbox_write_line(wanted, sizeof wanted, line).length != told.length) return 0;
     if (told.refusal != refusal || !same_octets(own, wanted, sizeof own)) return 0;
     return linkbox_ticks_to_next(box) == (refusal != 0 ? 0 : box->run[LINKBOX_AT_NEXT]);
 }

@@ -4,6 +4,9 @@
 // what the reader says of the TLV. A line that is not octets is named on standard error too. Any argument gets a usage line there, and
 // nothing is printed. The test input has a reason above each frame, decided from the papers and not from the program.
 #![tactic(auto)]
+
+ghost use Rattle.std.specs.Prelude.{◌≤◌, length};
+
 use base_stamp::Stamp;
 use frame_ccm::{ccm_fields, meg_id};
 use frame_head::{level, version};
@@ -13,147 +16,146 @@ use frame_message::message_answer;
 use frame_message_answer::tell as tell_message;
 use frame_reader::{tlv_answer, tlv_value};
 use frame_reader_answer::tell as tell_tlv;
-use libc::{STDERR_FILENO, STDIN_FILENO, STDOUT_FILENO};
+use std::env::FillError;
+use std::io::{self, Read};
+use std::rt::Env;
 
 // A word, and the number behind it.
-fn print_number(word: &[u8], n: u32) {
-    io::write_all(STDOUT_FILENO, word);
-    io::print_decimal(STDOUT_FILENO, n as u64);
+fn print_number(rt: &impl Print, word: &str, n: u32) -> io::Result<()> {
+    print!(rt; "{word}{n}")
 }
 
 // An octet in two hex digits.
-fn print_octet(x: u8) {
-    io::print_hex(STDOUT_FILENO, x as u64, 2);
+fn print_octet(rt: &impl Print, x: u8) -> io::Result<()> {
+    print!(rt; "{x:02x}")
 }
 
 // A word, and the octets behind it.
-fn print_octets(word: &[u8], octets: &[u8]) {
-    io::write_all(STDOUT_FILENO, word);
-    let mut i: usize = 0;
-    while i < octets.len() {
-        print_octet(octets[i]);
-        i += 1;
+fn print_octets(rt: &impl Print, word: &str, octets: &[u8]) -> io::Result<()> {
+    rt.print(word)?;
+    for octet in octets {
+        print_octet(rt, *octet)?;
     }
+    Ok(())
 }
 
 // A word, and the seconds and nanoseconds behind it.
-fn print_stamp(word: &[u8], stamp: Stamp) {
-    print_number(word, stamp.seconds);
-    print_number(b" ", stamp.nanoseconds);
+fn print_stamp(rt: &impl Print, word: &str, stamp: Stamp) -> io::Result<()> {
+    print_number(rt, word, stamp.seconds)?;
+    print_number(rt, " ", stamp.nanoseconds)
 }
 
 // A refusal or a drop; returns whether there was one.
-fn print_reason(refusal: u32, drop: u32) -> bool {
+fn print_reason(rt: &impl Print, refusal: u32, drop: u32) -> io::Result<bool> {
     if refusal != 0 {
-        print_number(b"refused ", refusal);
-        return true;
+        print_number(rt, "refused ", refusal)?;
+        return Ok(true);
     }
     if drop != 0 {
-        print_number(b"dropped ", drop);
-        return true;
+        print_number(rt, "dropped ", drop)?;
+        return Ok(true);
     }
-    false
+    Ok(false)
 }
 
 // A message's name, and its level and version.
-fn print_head(name: &[u8], frame: &[u8]) {
-    io::write_all(STDOUT_FILENO, name);
-    print_number(b" level ", level(frame));
-    print_number(b" version ", version(frame));
+fn print_head(rt: &impl Print, name: &str, frame: &[u8]) -> io::Result<()> {
+    rt.print(name)?;
+    print_number(rt, " level ", level(frame))?;
+    print_number(rt, " version ", version(frame))
 }
 
 // The fields of a CCM.
-fn print_ccm(frame: &[u8]) {
+fn print_ccm(rt: &impl Print, frame: &[u8]) -> io::Result<()> {
     let ccm = ccm_fields(frame);
-    print_head(b"CCM", frame);
-    print_number(b" sequence ", ccm.sequence);
-    print_number(b" mep ", ccm.mep);
-    print_octets(b" meg ", meg_id(frame));
-    print_number(b" txfcf ", ccm.txfcf);
-    print_number(b" rxfcb ", ccm.rxfcb);
-    print_number(b" txfcb ", ccm.txfcb);
-    print_number(b" period ", ccm.period);
-    print_number(b" rdi ", ccm.rdi);
+    print_head(rt, "CCM", frame)?;
+    print_number(rt, " sequence ", ccm.sequence)?;
+    print_number(rt, " mep ", ccm.mep)?;
+    print_octets(rt, " meg ", meg_id(frame))?;
+    print_number(rt, " txfcf ", ccm.txfcf)?;
+    print_number(rt, " rxfcb ", ccm.rxfcb)?;
+    print_number(rt, " txfcb ", ccm.txfcb)?;
+    print_number(rt, " period ", ccm.period)?;
+    print_number(rt, " rdi ", ccm.rdi)
 }
 
 // The transaction of an LBM or LBR.
-fn print_loopback(name: &[u8], frame: &[u8]) {
-    print_head(name, frame);
-    print_number(b" transaction ", transaction(frame));
+fn print_loopback(rt: &impl Print, name: &str, frame: &[u8]) -> io::Result<()> {
+    print_head(rt, name, frame)?;
+    print_number(rt, " transaction ", transaction(frame))
 }
 
 // The period code of an AIS or LCK.
-fn print_alarm(name: &[u8], frame: &[u8]) {
-    print_head(name, frame);
-    print_number(b" period ", alarm_period(frame));
+fn print_alarm(rt: &impl Print, name: &str, frame: &[u8]) -> io::Result<()> {
+    print_head(rt, name, frame)?;
+    print_number(rt, " period ", alarm_period(frame))
 }
 
 // The counts of an LMM or LMR.
-fn print_loss(name: &[u8], frame: &[u8]) {
+fn print_loss(rt: &impl Print, name: &str, frame: &[u8]) -> io::Result<()> {
     let loss = loss_fields(frame);
-    print_head(name, frame);
-    print_number(b" txfcf ", loss.txfcf);
-    print_number(b" rxfcf ", loss.rxfcf);
-    print_number(b" txfcb ", loss.txfcb);
+    print_head(rt, name, frame)?;
+    print_number(rt, " txfcf ", loss.txfcf)?;
+    print_number(rt, " rxfcf ", loss.rxfcf)?;
+    print_number(rt, " txfcb ", loss.txfcb)
 }
 
 // The stamps of a DMM or DMR.
-fn print_delay(name: &[u8], frame: &[u8]) {
+fn print_delay(rt: &impl Print, name: &str, frame: &[u8]) -> io::Result<()> {
     let delay = delay_fields(frame);
     let sent = delay.txtimestampf;
     let heard = delay.rxtimestampf;
     let answered = delay.txtimestampb;
-    print_head(name, frame);
-    print_stamp(b" txtimestampf ", sent);
-    print_stamp(b" rxtimestampf ", heard);
-    print_stamp(b" txtimestampb ", answered);
+    print_head(rt, name, frame)?;
+    print_stamp(rt, " txtimestampf ", sent)?;
+    print_stamp(rt, " rxtimestampf ", heard)?;
+    print_stamp(rt, " txtimestampb ", answered)
 }
 
 // The message that a frame is, or why it is none.
-fn print_message(frame: &[u8]) {
+fn print_message(rt: &impl Print, frame: &[u8]) -> io::Result<()> {
     let told = tell_message(message_answer(frame));
-    if print_reason(told.refusal, told.drop) {
-        return;
+    if print_reason(rt, told.refusal, told.drop)? {
+        return Ok(());
     }
     let opcode = told.opcode;
     match opcode {
-        1 => print_ccm(frame),
-        2 => print_loopback(b"LBR", frame),
-        3 => print_loopback(b"LBM", frame),
-        33 => print_alarm(b"AIS", frame),
-        35 => print_alarm(b"LCK", frame),
-        42 => print_loss(b"LMR", frame),
-        43 => print_loss(b"LMM", frame),
-        46 => print_delay(b"DMR", frame),
-        47 => print_delay(b"DMM", frame),
-        _ => {}
+        1 => print_ccm(rt, frame),
+        2 => print_loopback(rt, "LBR", frame),
+        3 => print_loopback(rt, "LBM", frame),
+        33 => print_alarm(rt, "AIS", frame),
+        35 => print_alarm(rt, "LCK", frame),
+        42 => print_loss(rt, "LMR", frame),
+        43 => print_loss(rt, "LMM", frame),
+        46 => print_delay(rt, "DMR", frame),
+        47 => print_delay(rt, "DMM", frame),
+        _ => Ok(()),
     }
 }
 
 // What the reader says of a TLV.
-fn print_tlv(frame: &[u8], kind: u8) {
+fn print_tlv(rt: &impl Print, frame: &[u8], kind: u8) -> io::Result<()> {
     let told = tell_tlv(tlv_answer(frame, kind));
-    if print_reason(told.refusal, told.drop) {
-        return;
+    if print_reason(rt, told.refusal, told.drop)? {
+        return Ok(());
     }
     if told.value == 0 {
-        io::write_all(STDOUT_FILENO, b"none");
-        return;
+        return rt.print("none");
     }
     let value = tlv_value(frame, kind);
-    io::write_all(STDOUT_FILENO, b"value ");
-    io::print_decimal(STDOUT_FILENO, value.len() as u64);
+    print!(rt; "value {}", value.len())?;
     if 0 < value.len() {
-        print_octets(b" ", value);
+        print_octets(rt, " ", value)?;
     }
+    Ok(())
 }
 
 // The whole line of a frame.
-fn show(frame: &[u8], kind: u8) {
-    print_message(frame);
-    io::write_all(STDOUT_FILENO, b" | ");
-    print_tlv(frame, kind);
-    io::write_all(STDOUT_FILENO, b"\n");
+fn show(rt: &impl Print, frame: &[u8], kind: u8) -> io::Result<()> {
+    print_message(rt, frame)?;
+    rt.print(" | ")?;
+    print_tlv(rt, frame, kind)?;
+    println!(rt)
 }
 
 // The octets that a line may have; a frame of more is too long in any case, and the rest is ignored.
@@ -252,36 +254,40 @@ fn take_inner(line: &mut [u8; LINE], before: Marks, c: u8) -> Marks {
 }
 
 // Takes a character; the end of a line prints what it reads as.
-fn take(line: &mut [u8; LINE], before: Marks, c: u8) -> Marks {
+fn take(
+    rt: &(impl Print + Eprint),
+    line: &mut [u8; LINE],
+    before: Marks,
+    c: u8,
+) -> io::Result<Marks> {
     if c == b'\n' {
-        end_line(line, before);
+        end_line(rt, line, before)?;
         // it never wraps: no input has so many lines
-        return no_marks(std::num::wrapping_add_u64(before.number, 1));
+        return Ok(no_marks(before.number.wrapping_add(1)));
     }
-    take_inner(line, before, c)
+    Ok(take_inner(line, before, c))
 }
 
-// Prints what a line reads as: nothing where nothing was on it.
-fn end_line(line: &[u8; LINE], marks: Marks) {
+// Prints what a line reads as: nothing where nothing was on it. What standard error does not take is lost, and the next line comes.
+fn end_line(rt: &(impl Print + Eprint), line: &[u8; LINE], marks: Marks) -> io::Result<()> {
     if !marks.any {
-        return;
+        return Ok(());
     }
     let all: &[u8] = line;
     let at = marks.at;
     if marks.wrong | marks.half {
-        io::write_all(STDOUT_FILENO, b"not octets\n");
-        io::write_all(STDERR_FILENO, b"frames: line ");
-        io::print_decimal(STDERR_FILENO, marks.number);
-        io::write_all(STDERR_FILENO, b": not octets\n");
-        return;
+        println!(rt; "not octets")?;
+        let number = marks.number;
+        let _ = eprintln!(rt; "frames: line {number}: not octets");
+        return Ok(());
     }
     if at < 1 {
-        return;
+        return Ok(());
     }
     if all.len() < at {
-        return;
+        return Ok(());
     }
-    show(&all[1..at], all[0]);
+    show(rt, &all[1..at], all[0])
 }
 
 // The marks after a chunk of input, and whether more may come.
@@ -292,46 +298,72 @@ struct Turn {
 }
 
 // Takes the characters of a chunk one by one.
-fn take_all(chunk: &[u8], line: &mut [u8; LINE], before: Marks) -> Marks {
+fn take_all(
+    rt: &(impl Print + Eprint),
+    chunk: &[u8],
+    line: &mut [u8; LINE],
+    before: Marks,
+) -> io::Result<Marks> {
     let mut marks = before;
-    let mut i: usize = 0;
-    while i < chunk.len() {
-        marks = take(line, marks, chunk[i]);
-        i += 1;
+    for c in chunk {
+        marks = take(rt, line, marks, *c)?;
     }
-    marks
+    Ok(marks)
+}
+
+// The octets read at a time.
+const CHUNK: usize = 4096;
+
+// Reads until the buffer is full or the input ends; returns how many octets came. A read that fails ends the input.
+fn read_full(input: &mut impl Read, buffer: &mut [u8]) -> usize
+    ensures { result ≤ length buffer.new }
+{
+    let mut got = 0;
+    while got < buffer.len() {
+        match input.read(&mut buffer[got..]) {
+            Ok(n) if 0 < n => got += n,
+            _ => break,
+        }
+    }
+    got
 }
 
 // Reads a chunk of input and takes it.
-fn read_chunk(line: &mut [u8; LINE], marks: Marks) -> Turn {
-    let mut chunk = io::buffer();
-    let got = io::read_full(STDIN_FILENO, &mut chunk);
-    Turn {
-        marks: take_all(&chunk[..got], line, marks),
+fn read_chunk(
+    rt: &(impl Print + Eprint),
+    input: &mut impl Read,
+    line: &mut [u8; LINE],
+    marks: Marks,
+) -> io::Result<Turn> {
+    let mut chunk = [0u8; CHUNK];
+    let got = read_full(input, &mut chunk);
+    Ok(Turn {
+        marks: take_all(rt, &chunk[..got], line, marks)?,
         more: 0 < got,
-    }
+    })
 }
 
-fn main() {
-    if 1 < os::arg_count() {
-        io::write_all(
-            STDERR_FILENO,
-            b"usage: frames < TEXT    (no arguments; a TLV type and a frame a line, in hex)\n",
+// Whether the program was given an argument. It may be any octets, so it is not read as text.
+fn has_argument(rt: &impl Env) -> bool {
+    !matches!(rt.arg(1, &mut [0u8; 1]), Err(FillError::NotPresent))
+}
+
+fn main(rt: HostRuntime) -> io::Result<()> {
+    if has_argument(&rt) {
+        return eprintln!(rt;
+            "usage: frames < TEXT    (no arguments; a TLV type and a frame a line, in hex)"
         );
-        return;
     }
+    let mut input = rt.stdin();
     let mut line = [0u8; LINE];
     let mut marks = no_marks(1);
     // a loop must be shown to end, and nothing says that input does
-    let mut turns = u64::MAX;
-    while turns > 0 {
-        let t = read_chunk(&mut line, marks);
-        let next = t.marks;
-        marks = next;
+    for _ in 0..u64::MAX {
+        let t = read_chunk(&rt, &mut input, &mut line, marks)?;
+        marks = t.marks;
         if !t.more {
-            end_line(&line, marks);
-            return;
+            return end_line(&rt, &line, marks);
         }
-        turns -= 1;
     }
+    Ok(())
 }

@@ -1,7 +1,6 @@
 // The boundary to C: a frame to a box, on the arrays that hold the state, answered in the paper's numbers.
-// It is for firmware in C or Rust; linkbox_raw.h declares it. It calls the Rattle function of the same call and returns its answer in
-// numbers. Any content of the memory is accepted. The caller must pass pointers to memory of these sizes, and what is written must overlap
-// nothing else that is passed in.
+// It is for firmware in C or Rust: linkbox_c exports it, and linkbox_raw.h declares it. It calls the Rattle function of the same call and
+// returns its answer in numbers. Any content of the memory is accepted.
 #![tactic(auto)]
 ghost use Rattle.std.specs.Prelude.{◌≡◌};
 ghost use Rattle.base_laws.specs.Ended.{ended, told_by};

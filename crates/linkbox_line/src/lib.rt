@@ -1,8 +1,7 @@
 // The boundary to C: the loss line of a box's session as a stored record, answered in the paper's numbers.
-// It is for firmware in C or Rust; linkbox_raw.h declares it. A line's record is what the firm stores each minute, and the session's own
-// words are written as they are. The session of a well-formed state keeps the rules of a line, so the writer's refusal 4 never comes
-// (`linkbox_line.LossLines`). Any content of the memory is accepted. The caller must pass pointers to memory of these sizes, and what is
-// written must overlap nothing else that is passed in.
+// It is for firmware in C or Rust: linkbox_c exports it, and linkbox_raw.h declares it. A line's record is what the firm stores each
+// minute, and the session's own words are written as they are. The session of a well-formed state keeps the rules of a line, so the
+// writer's refusal 4 never comes (`linkbox_line.LossLines`). Any content of the memory is accepted.
 #![tactic(auto)]
 ghost use Rattle.std.specs.Prelude.{◌≡◌};
 ghost use Rattle.base_laws.specs.Ended.{wrote};

@@ -1,7 +1,6 @@
 // The boundary to C: stored settings and loss lines read and written, answered in the paper's numbers.
-// These are for firmware in C or Rust; linkbox.h and linkbox_raw.h declare them. Each calls the Rattle function of the same call and
-// returns its answer in numbers. Any content of the memory is accepted. The caller must pass pointers to memory of these sizes, and what is
-// written must overlap nothing else that is passed in.
+// These are for firmware in C or Rust: linkbox_c exports them, and linkbox.h and linkbox_raw.h declare them. Each calls the Rattle function
+// of the same call and returns its answer in numbers. Any content of the memory is accepted.
 #![tactic(auto)]
 ghost use Rattle.std.specs.Prelude.{◌≡◌};
 ghost use Rattle.base_laws.specs.Ended.{wrote, told_by};

@@ -1,8 +1,7 @@
 // The boundary to C: the CCM of a tick, an LMM and a DMM, on the arrays that hold the state, answered in the paper's numbers.
 // Beside them it answers how many ticks are left to the next CCM, so that firmware knows how long it may rest. These are for firmware in C
-// or Rust; linkbox_raw.h declares them. Each calls the Rattle function of the same call and returns its answer in numbers. Any content of
-// the memory is accepted. The caller must pass pointers to memory of these sizes, and what is written must overlap nothing else that is
-// passed in.
+// or Rust: linkbox_c exports them, and linkbox_raw.h declares them. Each calls the Rattle function of the same call and returns its answer
+// in numbers. Any content of the memory is accepted.
 #![tactic(auto)]
 ghost use Rattle.std.specs.Prelude.{◌≡◌};
 ghost use Rattle.base_laws.specs.Ended.{ended, told_by};

@@ -1,6 +1,6 @@
 // The boundary to C: the lent loss session, answered in the paper's numbers.
-// It is for firmware in C or Rust; linkbox.h declares it. It calls the Rattle function of the same call and returns its answer in numbers.
-// Any content of the memory is accepted. The caller must pass a pointer to memory of this size.
+// It is for firmware in C or Rust: linkbox_c exports it, and linkbox.h declares it. It calls the Rattle function of the same call and
+// returns its answer in numbers. Any content of the memory is accepted.
 #![tactic(auto)]
 ghost use Rattle.std.specs.Prelude.{◌≡◌};
 ghost use Rattle.loss_session.specs.Session.{readings};

@@ -1,8 +1,7 @@
 // The boundary to C: a new setting, a clear and the active conditions, on the arrays that hold the state, answered in the paper's numbers.
-// Beside them it answers how many octets a box has here, for a caller to compare with its own struct. These are for firmware in C or Rust;
-// linkbox.h and linkbox_raw.h declare them. Each calls the Rattle function of the same call and returns its answer in numbers. Any content
-// of the memory is accepted. The caller must pass pointers to memory of these sizes, and what is written must overlap nothing else that is
-// passed in.
+// Beside them it answers how many octets a box has here, for a caller to compare with its own struct. These are for firmware in C or Rust:
+// linkbox_c exports them, and linkbox.h and linkbox_raw.h declare them. Each calls the Rattle function of the same call and returns its
+// answer in numbers. Any content of the memory is accepted.
 #![tactic(auto)]
 ghost use Rattle.std.specs.Prelude.{[], ◌≡◌};
 ghost use Rattle.state_settings.specs.Settings.{slots, lent_settings, Shaped};

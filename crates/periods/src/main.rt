@@ -1,67 +1,53 @@
 // Prints the paper's table: each period code with its name, its ticks and its hold time.
 // Codes 0 and 8 show that others have none. Any argument gets a usage line on standard error, and nothing is printed.
 #![tactic(auto)]
-use libc::{STDERR_FILENO, STDOUT_FILENO};
+
+use std::env::FillError;
+use std::io;
+use std::rt::Env;
 
 // The period's name in ten columns.
-fn print_name(code: u32) {
-    match code {
-        1 => {
-            io::write_all(STDOUT_FILENO, b"   3.33 ms");
-        }
-        2 => {
-            io::write_all(STDOUT_FILENO, b"     10 ms");
-        }
-        3 => {
-            io::write_all(STDOUT_FILENO, b"    100 ms");
-        }
-        4 => {
-            io::write_all(STDOUT_FILENO, b"       1 s");
-        }
-        5 => {
-            io::write_all(STDOUT_FILENO, b"      10 s");
-        }
-        6 => {
-            io::write_all(STDOUT_FILENO, b"     1 min");
-        }
-        7 => {
-            io::write_all(STDOUT_FILENO, b"    10 min");
-        }
-        _ => {
-            io::write_all(STDOUT_FILENO, b"      none");
-        }
-    }
+fn print_name(rt: &impl Print, code: u32) -> io::Result<()> {
+    let name = match code {
+        1 => "3.33 ms",
+        2 => "10 ms",
+        3 => "100 ms",
+        4 => "1 s",
+        5 => "10 s",
+        6 => "1 min",
+        7 => "10 min",
+        _ => "none",
+    };
+    print!(rt; "{name:>10}")
 }
 
 // A number in ten columns, right against the edge; more digits than that are written whole.
-fn print_number(n: u32) {
-    let mut digits = [0u8; 20];
-    let used = io::decimal(n as u64, &mut digits);
-    let blank = [b' '; 10];
-    if used <= 10 {
-        io::write_all(STDOUT_FILENO, &blank[used..]);
-    }
-    io::print_decimal(STDOUT_FILENO, n as u64);
+fn print_number(rt: &impl Print, n: u32) -> io::Result<()> {
+    print!(rt; "{n:>10}")
 }
 
-fn print_row(code: u32) {
-    print_number(code);
-    print_name(code);
-    print_number(base_period::ticks_of(code));
-    print_number(base_period::hold_of(code));
-    io::write_all(STDOUT_FILENO, b"\n");
+fn print_row(rt: &impl Print, code: u32) -> io::Result<()> {
+    print_number(rt, code)?;
+    print_name(rt, code)?;
+    print_number(rt, base_period::ticks_of(code))?;
+    print_number(rt, base_period::hold_of(code))?;
+    println!(rt)
 }
 
-fn main() {
-    if 1 < os::arg_count() {
-        io::write_all(
-            STDERR_FILENO,
-            b"usage: periods    (no arguments and no input; the table of periods out)\n",
+// Whether the program was given an argument. It may be any octets, so it is not read as text.
+fn has_argument(rt: &impl Env) -> bool {
+    !matches!(rt.arg(1, &mut [0u8; 1]), Err(FillError::NotPresent))
+}
+
+fn main(rt: HostRuntime) -> io::Result<()> {
+    if has_argument(&rt) {
+        return eprintln!(rt;
+            "usage: periods    (no arguments and no input; the table of periods out)"
         );
-        return;
     }
-    io::write_all(STDOUT_FILENO, b"      code    period     ticks hold time\n");
+    println!(rt; "      code    period     ticks hold time")?;
     for code in 0..9 {
-        print_row(code);
+        print_row(&rt, code)?;
     }
+    Ok(())
 }

@@ -3,12 +3,16 @@
 // the input cuts short, or that the session has no interval left for, ends it; the lines before it stay. Which reply that is, where it
 // begins, and at the end how many replies were worked, is said on standard error, since standard output holds records and nothing else.
 // Any argument gets a usage line there, and nothing is written. What is written for a chunk of replies is proved in `stored_replies`. The
-// loop ends by a count of turns, which starts at 2^64 - 1, since a loop must be shown to end and nothing says that the input does.
+// loop ends by a count of turns, 2^64 - 1 of them, since a loop must be shown to end and nothing says that the input does. What standard
+// error does not take is lost: there is no other place to say it.
 #![tactic(auto)]
-ghost use Rattle.std.specs.Prelude.{◌<◌};
 
-use libc::{STDERR_FILENO, STDIN_FILENO, STDOUT_FILENO};
+ghost use Rattle.std.specs.Prelude.{◌<◌, ◌≤◌, length};
+
 use loss_session::{LossSession, cleared};
+use std::env::FillError;
+use std::io::Read;
+use std::rt::Env;
 use stored_line::LINE;
 use stored_replies::{REPLY, recount};
 
@@ -25,11 +29,23 @@ struct Turn {
     more: bool,
 }
 
+// Reads until the buffer is full or the input ends; returns how many octets came. A read that fails ends the input.
+fn read_full(input: &mut impl Read, buffer: &mut [u8]) -> usize
+    ensures { result ≤ length buffer.new }
+{
+    let mut got = 0;
+    while got < buffer.len() {
+        match input.read(&mut buffer[got..]) {
+            Ok(n) if 0 < n => got += n,
+            _ => break,
+        }
+    }
+    got
+}
+
 // A word on standard error, a number, and a word after it.
-fn say(before: &[u8], n: u64, after: &[u8]) {
-    io::write_all(STDERR_FILENO, before);
-    io::print_decimal(STDERR_FILENO, n);
-    io::write_all(STDERR_FILENO, after);
+fn say(rt: &impl Eprint, before: &str, n: u64, after: &str) {
+    let _ = eprint!(rt; "{before}{n}{after}");
 }
 
 // The replies that a session has taken since it was cleared: each but the first is the end of an interval.
@@ -40,51 +56,53 @@ fn replies(session: LossSession) -> u64
 }
 
 // Says which reply is the next, counted from 1, and the octet where it begins, counted from 0.
-fn say_next(session: LossSession) {
+fn say_next(rt: &impl Eprint, session: LossSession) {
     let taken = replies(session);
-    say(b"recount: reply ", taken + 1, b", at octet ");
-    say(b"", taken * 16, b": ");
+    say(rt, "recount: reply ", taken + 1, ", at octet ");
+    say(rt, "", taken * 16, ": ");
 }
 
 // Says how many replies were worked.
-fn say_count(session: LossSession) {
-    say(b"recount: replies worked: ", replies(session), b"\n");
+fn say_count(rt: &impl Eprint, session: LossSession) {
+    say(rt, "recount: replies worked: ", replies(session), "\n");
 }
 
 // Writes the first n records; returns whether all were written.
-fn print(records: &[u8; ROOM], n: usize) -> bool {
+fn print(rt: &(impl Print + Eprint), records: &[u8; ROOM], n: usize) -> bool {
     let all: &[u8] = records;
     if all.len() / LINE < n {
         return false;
     }
-    if io::write_all(STDOUT_FILENO, &all[0..n * LINE]) {
+    if rt.write_all(&all[0..n * LINE]).is_ok() {
         return true;
     }
-    io::write_all(STDERR_FILENO, b"recount: standard output takes no more\n");
+    let _ = eprintln!(rt; "recount: standard output takes no more");
     false
 }
 
 // Says why it ends, if it does; returns whether it goes on. The session is well formed and the room is enough, so nothing is ever refused.
-fn goes_on(session: LossSession, refusal: u32, halted: u32, left: usize) -> bool {
+fn goes_on(rt: &impl Eprint, session: LossSession, refusal: u32, halted: u32, left: usize) -> bool {
     if refusal != 0 {
-        say(b"recount: refused ", refusal as u64, b"\n");
+        say(rt, "recount: refused ", refusal as u64, "\n");
         return false;
     }
     if halted != 0 {
-        say_next(session);
+        say_next(rt, session);
         say(
-            b"refused ",
+            rt,
+            "refused ",
             halted as u64,
-            b", no interval is left for it\n",
+            ", no interval is left for it\n",
         );
         return false;
     }
     if left != 0 {
-        say_next(session);
+        say_next(rt, session);
         say(
-            b"cut short, ",
+            rt,
+            "cut short, ",
             left as u64,
-            b" of its 16 octets are there\n",
+            " of its 16 octets are there\n",
         );
         return false;
     }
@@ -92,9 +110,9 @@ fn goes_on(session: LossSession, refusal: u32, halted: u32, left: usize) -> bool
 }
 
 // Reads a chunk and writes the records of its replies.
-fn work_chunk(session: LossSession) -> Turn {
+fn work_chunk(rt: &(impl Print + Eprint), input: &mut impl Read, session: LossSession) -> Turn {
     let mut chunk = [0u8; CHUNK];
-    let got = io::read_full(STDIN_FILENO, &mut chunk);
+    let got = read_full(input, &mut chunk);
     if got == 0 {
         return Turn {
             session,
@@ -104,33 +122,35 @@ fn work_chunk(session: LossSession) -> Turn {
     let mut records = [0u8; ROOM];
     let done = recount(&mut records, &chunk[..got], session);
     let after = done.session;
-    let written = print(&records, done.taken);
-    let fine = goes_on(after, done.refusal, done.halted, got % REPLY);
+    let written = print(rt, &records, done.taken);
+    let fine = goes_on(rt, after, done.refusal, done.halted, got % REPLY);
     Turn {
         session: after,
         more: written & fine,
     }
 }
 
-fn main() {
-    if 1 < os::arg_count() {
-        io::write_all(
-            STDERR_FILENO,
-            b"usage: recount < RAW > RECORDS    (no arguments; raw loss replies in, stored loss lines out)\n",
+// Whether the program was given an argument. It may be any octets, so it is not read as text.
+fn has_argument(rt: &impl Env) -> bool {
+    !matches!(rt.arg(1, &mut [0u8; 1]), Err(FillError::NotPresent))
+}
+
+fn main(rt: HostRuntime) {
+    if has_argument(&rt) {
+        let _ = eprintln!(rt;
+            "usage: recount < RAW > RECORDS    (no arguments; raw loss replies in, stored loss lines out)"
         );
         return;
     }
+    let mut input = rt.stdin();
     let mut session = cleared();
     // a loop must be shown to end, and nothing says that input does
-    let mut turns = u64::MAX;
-    while turns > 0 {
-        let t = work_chunk(session);
-        let next = t.session;
-        session = next;
+    for _ in 0..u64::MAX {
+        let t = work_chunk(&rt, &mut input, session);
+        session = t.session;
         if !t.more {
-            say_count(session);
+            say_count(&rt, session);
             return;
         }
-        turns -= 1;
     }
 }

@@ -6,6 +6,7 @@
 // becomes the held state. 267 calls `loss_lent::answer`, since no caller that lends a struct is covered by the toolchain. A part at a
 // fixed place of a call is read from the program's array of 2,000 octets, so no handler tests a length.
 #![tactic(auto)]
+
 mod body;
 mod held;
 mod line;
@@ -13,6 +14,8 @@ mod records;
 mod sessions;
 mod shows;
 mod steps;
+
+ghost use Rattle.std.specs.Prelude.{◌≤◌, length};
 
 use crate::body::rest;
 use crate::held::{Held, Ran, looked, nothing};
@@ -25,10 +28,12 @@ use crate::shows::{run_conditions, run_dmm, run_lmm, show_state};
 use crate::steps::{put_state, run_clear, run_frame, run_setting, run_tick};
 use base_numbers::read_little;
 use base_text::write_word;
-use libc::{STDERR_FILENO, STDIN_FILENO, STDOUT_FILENO};
 use replay_calls::{MOST, ROOM, call_length, hands_over, room_of};
 use replay_good_calls::is_call;
 use state_view::StateArrays;
+use std::env::FillError;
+use std::io::Read;
+use std::rt::Env;
 
 // Room for the longest line: 1,600 octets in hex, and the answer before them.
 const LINE: usize = 4096;
@@ -43,12 +48,10 @@ struct Turn {
 
 // Sets the buffer's octet i to (165 + i) mod 256.
 fn refill(buffer: &mut [u8]) {
-    let mut i: usize = 0;
     let mut octet: u8 = 165;
-    while i < buffer.len() {
-        buffer[i] = octet;
-        octet = std::num::wrapping_add_u8(octet, 1);
-        i += 1;
+    for place in buffer.iter_mut() {
+        *place = octet;
+        octet = octet.wrapping_add(1);
     }
 }
 
@@ -107,22 +110,19 @@ fn end_line(line: &mut [u8], at: usize, number: u32, out: &[u8]) -> usize {
 }
 
 // Prints the first n octets of a line; returns whether all were written.
-fn print(line: &[u8; LINE], n: usize) -> bool {
+fn print(rt: &impl Print, line: &[u8; LINE], n: usize) -> bool {
     let all: &[u8] = line;
     if all.len() < n {
         return false;
     }
-    io::write_all(STDOUT_FILENO, &all[0..n])
+    rt.write_all(&all[0..n]).is_ok()
 }
 
 // A bad call: the last line, and no more. Standard error says which it is, counted from 1, and the octet where it begins, counted from 0.
-fn bad(held: Held, number: u64, at: u64) -> Turn {
-    io::write_all(STDOUT_FILENO, b"bad call\n");
-    io::write_all(STDERR_FILENO, b"replay: call ");
-    io::print_decimal(STDERR_FILENO, number);
-    io::write_all(STDERR_FILENO, b", at octet ");
-    io::print_decimal(STDERR_FILENO, at);
-    io::write_all(STDERR_FILENO, b": bad call\n");
+// What is not taken there is lost, since nothing comes after it.
+fn bad(rt: &(impl Print + Eprint), held: Held, number: u64, at: u64) -> Turn {
+    let _ = println!(rt; "bad call");
+    let _ = eprintln!(rt; "replay: call {number}, at octet {at}: bad call");
     ended(held)
 }
 
@@ -156,12 +156,12 @@ fn run_part(
 }
 
 // Runs a call and prints its line.
-fn run_whole(held: Held, call: &[u8; MOST], n: usize, room: usize) -> Turn {
+fn run_whole(rt: &impl Print, held: Held, call: &[u8; MOST], n: usize, room: usize) -> Turn {
     let mut buffer = [0u8; ROOM];
     refill(&mut buffer);
     let mut line = [0u8; LINE];
     let ran = run_part(held, call, n, &mut buffer, room, &mut line);
-    let more = print(&line, ran.length);
+    let more = print(rt, &line, ran.length);
     let after = ran.held;
     Turn {
         held: after,
@@ -170,61 +170,83 @@ fn run_whole(held: Held, call: &[u8; MOST], n: usize, room: usize) -> Turn {
     }
 }
 
+// Reads until the buffer is full or the input ends; returns how many octets came. A read that fails ends the input.
+fn read_full(input: &mut impl Read, buffer: &mut [u8]) -> usize
+    ensures { result ≤ length buffer.new }
+{
+    let mut got = 0;
+    while got < buffer.len() {
+        match input.read(&mut buffer[got..]) {
+            Ok(n) if 0 < n => got += n,
+            _ => break,
+        }
+    }
+    got
+}
+
 // Reads what follows a call's length; returns whether all of it came. That it fits, `call_length` has tested.
-fn fetch(call: &mut [u8], length: usize) -> bool {
+fn fetch(input: &mut impl Read, call: &mut [u8], length: usize) -> bool {
     if call.len() < length {
         return false;
     }
-    io::read_full(STDIN_FILENO, &mut call[0..length]) == length
+    read_full(input, &mut call[0..length]) == length
 }
 
 // Reads the next call, of this number and at this octet, and runs it: nothing more where the input ends before it.
-fn take_call(held: Held, number: u64, at: u64) -> Turn {
+fn take_call(
+    rt: &(impl Print + Eprint),
+    input: &mut impl Read,
+    held: Held,
+    number: u64,
+    at: u64,
+) -> Turn {
     let mut head = [0u8; 2];
-    let got = io::read_full(STDIN_FILENO, &mut head);
+    let got = read_full(input, &mut head);
     if got == 0 {
         return ended(held);
     }
     let length = call_length(&head);
     if (got < 2) | (length == 0) {
-        return bad(held, number, at);
+        return bad(rt, held, number, at);
     }
     let mut call = [0u8; MOST];
-    if !fetch(&mut call, length) {
-        return bad(held, number, at);
+    if !fetch(input, &mut call, length) {
+        return bad(rt, held, number, at);
     }
     if !is_call(rest(&call, 0, length)) {
-        return bad(held, number, at);
+        return bad(rt, held, number, at);
     }
     let room = room_of(rest(&call, 0, length));
-    run_whole(held, &call, length, room)
+    run_whole(rt, held, &call, length, room)
 }
 
 // The place after a call: its two octets of length, and what follows them. The sum never wraps: no input is that long.
 fn place_after(at: u64, used: usize) -> u64 {
-    std::num::wrapping_add_u64(std::num::wrapping_add_u64(at, 2), used as u64)
+    at.wrapping_add(2).wrapping_add(used as u64)
 }
 
-fn main() {
-    if 1 < os::arg_count() {
-        io::write_all(
-            STDERR_FILENO,
-            b"usage: replay < RUN    (no arguments; recorded calls in, a line for each out)\n",
+// Whether the program was given an argument. It may be any octets, so it is not read as text.
+fn has_argument(rt: &impl Env) -> bool {
+    !matches!(rt.arg(1, &mut [0u8; 1]), Err(FillError::NotPresent))
+}
+
+fn main(rt: HostRuntime) {
+    if has_argument(&rt) {
+        let _ = eprintln!(rt;
+            "usage: replay < RUN    (no arguments; recorded calls in, a line for each out)"
         );
         return;
     }
+    let mut input = rt.stdin();
     let mut held = nothing();
     let mut at: u64 = 0;
     // a loop must be shown to end, and nothing says that input does
-    let mut turns = u64::MAX;
-    while turns > 0 {
-        let t = take_call(held, u64::MAX - turns + 1, at);
-        let next = t.held;
-        held = next;
+    for number in 1..=u64::MAX {
+        let t = take_call(&rt, &mut input, held, number, at);
+        held = t.held;
         if !t.more {
             return;
         }
         at = place_after(at, t.used);
-        turns -= 1;
     }
 }

@@ -97,10 +97,8 @@ fn slot(line: &mut [u8], at: usize, used: bool, id: u32, lost: u32, rdi: u32) ->
 fn peers(line: &mut [u8], at: usize, count: u32, ids: &Slots, lost: &Slots, rdi: &Slots) -> usize {
     let used = count as usize;
     let mut behind = at;
-    let mut i: usize = 0;
-    while i < PEERS {
+    for i in 0..PEERS {
         behind = slot(line, behind, i < used, ids[i], lost[i], rdi[i]);
-        i += 1;
     }
     behind
 }

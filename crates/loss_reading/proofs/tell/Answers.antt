@@ -21,7 +21,6 @@ returns-in-First c = sym (ap loss_told c.in-First.is)
 
 pub returns-in-Measured : goal.returns-in-Measured
 unfolding loss_told
-returns-in-Measured c = let p = c.in-Measured.is in
-    let near : SFits w64 p.0.0 = search rules in
-    let far : SFits w64 p.0.1.0 = search rules in
-    rw (back p.0.0 near, back p.0.1.0 far) (sym (ap loss_told p.1))
+returns-in-Measured c =     let near : SFits w64 c.in-Measured.near = search rules in
+    let far : SFits w64 c.in-Measured.far = search rules in
+    rw (back c.in-Measured.near near, back c.in-Measured.far far) (sym (ap loss_told c.in-Measured.is))

@@ -1,0 +1,47 @@
+-- `message_dmm::write_dmm` meets its contract: destination, head, what is sent and zeros, each laid behind the one before it.
+use mathlib.Core.Path.{◌≡◌}
+use lib.ListN.{length}
+use Rattle.base_laws.specs.Lists.{part}
+use Rattle.state_settings.specs.Settings.{name_octets}
+use Rattle.message_parts.specs.Messages.{stamp_octets}
+use Rattle.message_parts.proofs.Laid.{stamp-long}
+use Rattle.message_requests.specs.Requests.{dmm_octets}
+use Rattle.message_requests.proofs.Laid.{short, written}
+use Rattle.state_settings.proofs.Shape.{own_long, own_first}
+use borrow.Author.Rules.{rules}
+use Rattle.message_dmm.proofs.write_dmm.Goals as goal
+
+pub returns-then-into-lt-DMM_LENGTH : goal.returns-then-into-lt-DMM_LENGTH
+unfolding dmm_octets
+returns-then-into-lt-DMM_LENGTH c =
+    let a = c.args in
+    let f = a.names.now in
+    let h : length f ≡ name_octets = search rules in
+    short f h a.level 47 32 (stamp_octets a.stamp) 8 25 (stamp-long a.stamp) a.into.now c.if-into-lt-DMM_LENGTH.true
+
+pub slice_bounds-write_head-end : goal.slice_bounds-write_head-end
+slice_bounds-write_head-end c = own_first c.args.names.now (search rules)
+
+pub write_head-requires : goal.write_head-requires
+unfolding part
+write_head-requires c = (search rules, own_long c.args.names.now (search rules))
+
+pub returns : goal.returns
+unfolding part dmm_octets
+returns c =
+    let zeros = c in
+    let value = c in
+    let head = c in
+    let octet = head in
+    let address = c in
+    let test = c in
+    let a = c.args in
+    let f = a.names.now in
+    let h : length f ≡ name_octets = search rules in
+    written f h a.level 47 32 (stamp_octets a.stamp) 8 25 (stamp-long a.stamp) a.into.now
+    octet.first_octet.result test.if-into-lt-DMM_LENGTH.false
+    octet.first_octet.ensures
+    address.copy_octets.ensures
+    head.write_head.ensures
+    value.write_stamp.ensures
+    zeros.write_big.ensures

@@ -1,0 +1,9 @@
+-- No more octets have come than there is room for, and each turn that goes on brings at least one.
+use Rattle.std.proofs.Common.{length, ◌-◌, ◌≤◌}
+use Rattle.replay.proofs.read_full.Given as goal
+
+abbrev pub invariant-loop-got : goal.invariant-loop-got
+invariant-loop-got g l = l.got ≤ length l.buffer
+
+abbrev pub decreases-loop-got : goal.decreases-loop-got
+decreases-loop-got g l = length l.buffer - l.got

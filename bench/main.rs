@@ -112,7 +112,7 @@ in_rust! { Nothing, "nothing",
     tlv(f: &[u8], kind: u8) -> TlvTold = { black_box((f, kind)); TlvTold::default() };
 }
 
-// A program compiled from the repository's crates; its exports are written by `run`, as ffi.rs declares them but under names of their own.
+// The archive that ships: its functions as ffi.rs declares them, but under the names that native.sh gives them.
 macro_rules! compiled {
     ($shape:ident, $name:literal, $new_setting:ident, $frame:ident, $tick:ident, $clear:ident, $send_lmm:ident, $send_dmm:ident, $conditions:ident,
      $measure:ident, $read_settings:ident, $write_settings:ident, $read_line:ident, $write_line:ident, $tlv:ident) => {

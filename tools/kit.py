@@ -41,13 +41,13 @@ def crate_at(top, name):
     return library().Crate(str(top / "crates" / name), str(top), {})
 
 
-def rattle(verb, crate, *more, jobs=0, **how):
-    """Runs the compiler on a crate as `rt` does, from nothing and over the libraries in the folders out/ of the crates below it, once no other
-    `rt` works on these. What it prints is in the result."""
+def rattle(verb, crate, *more, jobs=0, folder=None):
+    """Runs the compiler on a crate, or on a changed copy of it in another folder, as `rt` does: from nothing, and over the libraries in the
+    folders out/ of the crates below it, once no other `rt` works on these. What it prints is in the result."""
     held = library().lock([*crate.below(), crate])
     words = [str(home() / "bin/rattle"), verb, *crate.words(["--jobs", str(jobs or min(os.cpu_count(), 4))], keeps=False), *map(str, more)]
-    ran = subprocess.run(words, cwd=crate.folder, stdin=subprocess.DEVNULL, stdout=subprocess.PIPE, stderr=subprocess.STDOUT, text=True,
-                         errors="replace", **how)
+    ran = subprocess.run(words, cwd=folder or crate.folder, stdin=subprocess.DEVNULL, stdout=subprocess.PIPE, stderr=subprocess.STDOUT,
+                         text=True, errors="replace")
     for lock in held:
         os.close(lock)
     return ran

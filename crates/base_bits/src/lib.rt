@@ -2,6 +2,7 @@
 // The contracts are said in `/` and `%`, so that a reader can check them with pencil and paper. No function needs anything: each takes
 // the low bits of whatever it is given, so that no caller can make it write into a neighbour's bits.
 #![tactic(auto)]
+
 ghost use Rattle.std.specs.Prelude.{◌≡◌, ◌+◌, ◌*◌, ◌/◌, ◌%◌, ◌<◌};
 
 // The level: the top three bits of a PDU's first octet.

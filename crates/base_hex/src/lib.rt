@@ -2,6 +2,7 @@
 // Octets are in lower-case hex with nothing between them, and a dash is no octets. Where the text does not fit from its place to the
 // buffer's end, nothing changes and the same place is returned.
 #![tactic(auto)]
+
 ghost use Rattle.std.specs.Prelude.{◌≡◌, ◌+◌, ◌*◌, ◌≤◌, ◌<◌, length};
 ghost use Rattle.base_laws.specs.Lists.{laid};
 ghost use Rattle.base_number_text.specs.Put.{put_at, behind};

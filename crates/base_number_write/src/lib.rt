@@ -2,6 +2,7 @@
 // It is the inner loop of what prints records: the digits are made from the last to the first, two for each division, so that none are
 // counted before they are written; where they begin is known when they are there.
 #![tactic(auto)]
+
 ghost use Rattle.std.specs.Prelude.{◌≡◌, [], ◌∷◌, ◌+◌, ◌-◌, ◌/◌, ◌%◌, ◌^◌, ◌≤◌, ◌<◌, nat_abs, length};
 ghost use Rattle.base_laws.specs.Lists.{laid};
 ghost use Rattle.base_number_text.specs.Decimal.{digit, digits_of, decimal};

@@ -1,5 +1,6 @@
 // Octets: what a list of them is, and a run of them copied into a buffer. Inner: callers meet the `requires`.
 #![tactic(auto)]
+
 ghost use Rattle.std.specs.Prelude.{◌≡◌, ◌+◌, ◌≤◌, length};
 ghost use Rattle.base_laws.specs.Lists.{laid};
 

@@ -2,6 +2,7 @@
 // It is read in two halves of four octets and written octet by octet; -2^63 is read back too. The language refuses a cast that changes a
 // number, so the code counts from -1 downwards for bits above 2^63.
 #![tactic(auto)]
+
 ghost use Rattle.std.specs.Prelude.{◌≡◌, ◌+◌, ◌≤◌, length};
 ghost use Rattle.std.specs.Int.{w64};
 ghost use Rattle.std.proofs.Common.{to_z, of_z};

@@ -1,6 +1,6 @@
 -- Stamps. The paper, "Numbers": 32-bit seconds and 32-bit nanoseconds, at most 999,999,999; all zero means "not given". Rule 4, D7.
 -- Definitions only.
-use Rattle.std.specs.Prelude.{ℕ, ◌^◌, ◌<◌, Bool, ◌&&◌, not, eqb, leb}
+use Rattle.std.specs.Prelude.{◌^◌, ◌<◌, Bool, ◌&&◌, not, eqb, leb}
 use Rattle.base_stamp.specs.declared.Stamp.{Stamp}
 
 -- not too many nanoseconds

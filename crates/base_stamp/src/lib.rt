@@ -1,6 +1,7 @@
 // Stamps of any content, as the wire and the caller have them: good, given. The paper, "Numbers".
 // Every crate that takes a stamp uses this one; only decisions on delays use `receive_delay`.
 #![tactic(auto)]
+
 ghost use Rattle.std.specs.Prelude.{◌≡◌};
 ghost use Rattle.base_stamp.specs.Stamps.{good, given};
 

@@ -39,8 +39,8 @@ pub fn clear(
     run: &mut Run,
     totals: &mut Totals,
 ) -> ClearAnswer
-    ensures totals_value { (ended result (after_session set names ids timers rdi run totals) [] ≡ clear_of (before set names ids timers rdi run totals))
-        × (clear_told result ≡ clear_numbers (before set names ids timers rdi run totals)) }
+    ensures totals_value { (ended result (after_session set names ids timers.now rdi.now run.new totals.new) [] ≡ clear_of (before set names ids timers.now rdi.now run.old totals.old))
+        × (clear_told result ≡ clear_numbers (before set names ids timers.now rdi.now run.old totals.old)) }
     ensures whole { Whole run.new totals.new }
 {
     // a view of an array has its length, and costs nothing

@@ -61,7 +61,7 @@ fn shown(
     run: &Run,
     totals: &Totals,
 ) -> ConditionFlags
-    ensures { result ≡ shown_of (before set names ids timers rdi run totals) }
+    ensures { result ≡ shown_of (before set names ids timers.now rdi.now run.now totals.now) }
 {
     let mut lost = [0u32; PEERS];
     mark_lost(&mut lost, timers, set[COUNT]);
@@ -105,7 +105,7 @@ pub fn conditions(
     run: &Run,
     totals: &Totals,
 ) -> ConditionsTold
-    ensures { result ≡ conditions_of (before set names ids timers rdi run totals) }
+    ensures { result ≡ conditions_of (before set names ids timers.now rdi.now run.now totals.now) }
 {
     if !is_well_formed(set, names, ids, timers, rdi, run, totals) {
         return ConditionsTold {

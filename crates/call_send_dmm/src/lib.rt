@@ -29,9 +29,9 @@ pub fn send_dmm(
     stamp: Stamp,
     out: &mut [u8],
 ) -> DmmAnswer
-    ensures out_after { (ended result (before set names ids timers rdi run totals) out.new ≡
-        send_dmm (before set names ids timers rdi run totals) stamp out.old)
-        × (dmm_told result ≡ dmm_numbers (before set names ids timers rdi run totals) stamp out.old) }
+    ensures out_after { (ended result (before set names ids timers.now rdi.now run.now totals.now) out.new ≡
+        send_dmm (before set names ids timers.now rdi.now run.now totals.now) stamp out.old)
+        × (dmm_told result ≡ dmm_numbers (before set names ids timers.now rdi.now run.now totals.now) stamp out.old) }
     ensures wire { Wire stamp }
 {
     if !is_well_formed(set, names, ids, timers, rdi, run, totals) {

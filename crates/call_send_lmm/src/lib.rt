@@ -26,9 +26,9 @@ pub fn send_lmm(
     totals: &Totals,
     out: &mut [u8],
 ) -> LmmAnswer
-    ensures { (ended result (before set names ids timers rdi run totals) out.new ≡
-        send_lmm (before set names ids timers rdi run totals) out.old)
-        × (lmm_told result ≡ lmm_numbers (before set names ids timers rdi run totals) out.old) }
+    ensures { (ended result (before set names ids timers.now rdi.now run.now totals.now) out.new ≡
+        send_lmm (before set names ids timers.now rdi.now run.now totals.now) out.old)
+        × (lmm_told result ≡ lmm_numbers (before set names ids timers.now rdi.now run.now totals.now) out.old) }
 {
     if !is_well_formed(set, names, ids, timers, rdi, run, totals) {
         return LmmAnswer::NotWellFormed;

@@ -1,2 +1,3 @@
 pub mod Starts
 pub mod One
+pub mod Least

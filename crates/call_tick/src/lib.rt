@@ -30,9 +30,9 @@ pub fn tick(
     totals: &Totals,
     out: &mut [u8],
 ) -> TickAnswer
-    ensures out_after { (ended result (after_tick set names ids timers rdi run totals) out.new ≡
-        tick_of (before set names ids timers rdi run totals) out.old)
-        × (tick_told result ≡ tick_numbers (before set names ids timers rdi run totals) out.old) }
+    ensures out_after { (ended result (after_tick set names ids timers.new rdi.now run.new totals.now) out.new ≡
+        tick_of (before set names ids timers.old rdi.now run.old totals.now) out.old)
+        × (tick_told result ≡ tick_numbers (before set names ids timers.old rdi.now run.old totals.now) out.old) }
     ensures whole { Whole run.new totals.now }
 {
     // a view of an array has its length, and costs nothing

@@ -25,10 +25,10 @@ pub fn write_own_ccm(
     totals: &Totals,
     out: &mut [u8],
 ) -> Written
-    ensures value { (result ≡ written_of (ccm_of (before set names ids timers rdi run totals)) out.old)
-        × (written_told result ≡ written_numbers (ccm_of (before set names ids timers rdi run totals)) out.old) }
-    ensures out_after { (out.new ≡ buffer_of (ccm_of (before set names ids timers rdi run totals)) out.old)
-        × (length (ccm_of (before set names ids timers rdi run totals)) ≡ ccm_length) }
+    ensures value { (result ≡ written_of (ccm_of (before set names ids timers.now rdi.now run.now totals.now)) out.old)
+        × (written_told result ≡ written_numbers (ccm_of (before set names ids timers.now rdi.now run.now totals.now)) out.old) }
+    ensures out_after { (out.new ≡ buffer_of (ccm_of (before set names ids timers.now rdi.now run.now totals.now)) out.old)
+        × (length (ccm_of (before set names ids timers.now rdi.now run.now totals.now)) ≡ ccm_length) }
 {
     let stands = any_stands(set, names, ids, timers, rdi, run, totals);
     let ccm = CcmValues {

@@ -57,8 +57,8 @@ pub fn pass_tick(
     totals: &Totals,
     left: u32,
 )
-    ensures totals_value { after_tick set names ids timers rdi run totals ≡
-        put next left (lowered (before set names ids timers rdi run totals)) }
+    ensures totals_value { after_tick set names ids timers.new rdi.now run.new totals.now ≡
+        put next left (lowered (before set names ids timers.old rdi.now run.old totals.now)) }
     ensures whole { Whole run.new totals.now }
 {
     // a view of an array has its length, and costs nothing

@@ -2,6 +2,7 @@
 // The one match on an opcode; the reader and the box read its columns. It answers for any octet. The paper's lists of opcodes are laws of
 // this table, so no list can drift from another. Below the reader, so that a mistake in a row is tried without the reader's proof.
 #![tactic(auto)]
+
 ghost use Rattle.std.specs.Prelude.{◌≡◌};
 ghost use Rattle.frame_opcodes.specs.Opcodes.{rule_of};
 

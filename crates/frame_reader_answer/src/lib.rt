@@ -1,6 +1,7 @@
 // What the reader answers, and why it cannot read a frame; both in the paper's numbers.
 // A bad frame's number is refusal 1, D1, D3, D4 or D5. Two matches, apart from the tests of a frame.
 #![tactic(auto)]
+
 ghost use Rattle.std.specs.Prelude.{◌≡◌};
 ghost use Rattle.frame_reader_answer.specs.Told.{bad_of, tlv_told};
 

@@ -21,8 +21,9 @@ use std::io::{self, Read};
 use std::rt::Env;
 
 // A word, and the number behind it.
-fn print_number(rt: &impl Print, word: &str, n: u32) -> io::Result<()> {
-    print!(rt; "{word}{n}")
+fn print_number(rt: &impl Print, word: &[u8], n: u32) -> io::Result<()> {
+    rt.write_all(word)?;
+    rt.print(n)
 }
 
 // An octet in two hex digits.
@@ -31,8 +32,8 @@ fn print_octet(rt: &impl Print, x: u8) -> io::Result<()> {
 }
 
 // A word, and the octets behind it.
-fn print_octets(rt: &impl Print, word: &str, octets: &[u8]) -> io::Result<()> {
-    rt.print(word)?;
+fn print_octets(rt: &impl Print, word: &[u8], octets: &[u8]) -> io::Result<()> {
+    rt.write_all(word)?;
     for octet in octets {
         print_octet(rt, *octet)?;
     }
@@ -40,76 +41,76 @@ fn print_octets(rt: &impl Print, word: &str, octets: &[u8]) -> io::Result<()> {
 }
 
 // A word, and the seconds and nanoseconds behind it.
-fn print_stamp(rt: &impl Print, word: &str, stamp: Stamp) -> io::Result<()> {
+fn print_stamp(rt: &impl Print, word: &[u8], stamp: Stamp) -> io::Result<()> {
     print_number(rt, word, stamp.seconds)?;
-    print_number(rt, " ", stamp.nanoseconds)
+    print_number(rt, b" ", stamp.nanoseconds)
 }
 
 // A refusal or a drop; returns whether there was one.
 fn print_reason(rt: &impl Print, refusal: u32, drop: u32) -> io::Result<bool> {
     if refusal != 0 {
-        print_number(rt, "refused ", refusal)?;
+        print_number(rt, b"refused ", refusal)?;
         return Ok(true);
     }
     if drop != 0 {
-        print_number(rt, "dropped ", drop)?;
+        print_number(rt, b"dropped ", drop)?;
         return Ok(true);
     }
     Ok(false)
 }
 
 // A message's name, and its level and version.
-fn print_head(rt: &impl Print, name: &str, frame: &[u8]) -> io::Result<()> {
-    rt.print(name)?;
-    print_number(rt, " level ", level(frame))?;
-    print_number(rt, " version ", version(frame))
+fn print_head(rt: &impl Print, name: &[u8], frame: &[u8]) -> io::Result<()> {
+    rt.write_all(name)?;
+    print_number(rt, b" level ", level(frame))?;
+    print_number(rt, b" version ", version(frame))
 }
 
 // The fields of a CCM.
 fn print_ccm(rt: &impl Print, frame: &[u8]) -> io::Result<()> {
     let ccm = ccm_fields(frame);
-    print_head(rt, "CCM", frame)?;
-    print_number(rt, " sequence ", ccm.sequence)?;
-    print_number(rt, " mep ", ccm.mep)?;
-    print_octets(rt, " meg ", meg_id(frame))?;
-    print_number(rt, " txfcf ", ccm.txfcf)?;
-    print_number(rt, " rxfcb ", ccm.rxfcb)?;
-    print_number(rt, " txfcb ", ccm.txfcb)?;
-    print_number(rt, " period ", ccm.period)?;
-    print_number(rt, " rdi ", ccm.rdi)
+    print_head(rt, b"CCM", frame)?;
+    print_number(rt, b" sequence ", ccm.sequence)?;
+    print_number(rt, b" mep ", ccm.mep)?;
+    print_octets(rt, b" meg ", meg_id(frame))?;
+    print_number(rt, b" txfcf ", ccm.txfcf)?;
+    print_number(rt, b" rxfcb ", ccm.rxfcb)?;
+    print_number(rt, b" txfcb ", ccm.txfcb)?;
+    print_number(rt, b" period ", ccm.period)?;
+    print_number(rt, b" rdi ", ccm.rdi)
 }
 
 // The transaction of an LBM or LBR.
-fn print_loopback(rt: &impl Print, name: &str, frame: &[u8]) -> io::Result<()> {
+fn print_loopback(rt: &impl Print, name: &[u8], frame: &[u8]) -> io::Result<()> {
     print_head(rt, name, frame)?;
-    print_number(rt, " transaction ", transaction(frame))
+    print_number(rt, b" transaction ", transaction(frame))
 }
 
 // The period code of an AIS or LCK.
-fn print_alarm(rt: &impl Print, name: &str, frame: &[u8]) -> io::Result<()> {
+fn print_alarm(rt: &impl Print, name: &[u8], frame: &[u8]) -> io::Result<()> {
     print_head(rt, name, frame)?;
-    print_number(rt, " period ", alarm_period(frame))
+    print_number(rt, b" period ", alarm_period(frame))
 }
 
 // The counts of an LMM or LMR.
-fn print_loss(rt: &impl Print, name: &str, frame: &[u8]) -> io::Result<()> {
+fn print_loss(rt: &impl Print, name: &[u8], frame: &[u8]) -> io::Result<()> {
     let loss = loss_fields(frame);
     print_head(rt, name, frame)?;
-    print_number(rt, " txfcf ", loss.txfcf)?;
-    print_number(rt, " rxfcf ", loss.rxfcf)?;
-    print_number(rt, " txfcb ", loss.txfcb)
+    print_number(rt, b" txfcf ", loss.txfcf)?;
+    print_number(rt, b" rxfcf ", loss.rxfcf)?;
+    print_number(rt, b" txfcb ", loss.txfcb)
 }
 
 // The stamps of a DMM or DMR.
-fn print_delay(rt: &impl Print, name: &str, frame: &[u8]) -> io::Result<()> {
+fn print_delay(rt: &impl Print, name: &[u8], frame: &[u8]) -> io::Result<()> {
     let delay = delay_fields(frame);
     let sent = delay.txtimestampf;
     let heard = delay.rxtimestampf;
     let answered = delay.txtimestampb;
     print_head(rt, name, frame)?;
-    print_stamp(rt, " txtimestampf ", sent)?;
-    print_stamp(rt, " rxtimestampf ", heard)?;
-    print_stamp(rt, " txtimestampb ", answered)
+    print_stamp(rt, b" txtimestampf ", sent)?;
+    print_stamp(rt, b" rxtimestampf ", heard)?;
+    print_stamp(rt, b" txtimestampb ", answered)
 }
 
 // The message that a frame is, or why it is none.
@@ -121,14 +122,14 @@ fn print_message(rt: &impl Print, frame: &[u8]) -> io::Result<()> {
     let opcode = told.opcode;
     match opcode {
         1 => print_ccm(rt, frame),
-        2 => print_loopback(rt, "LBR", frame),
-        3 => print_loopback(rt, "LBM", frame),
-        33 => print_alarm(rt, "AIS", frame),
-        35 => print_alarm(rt, "LCK", frame),
-        42 => print_loss(rt, "LMR", frame),
-        43 => print_loss(rt, "LMM", frame),
-        46 => print_delay(rt, "DMR", frame),
-        47 => print_delay(rt, "DMM", frame),
+        2 => print_loopback(rt, b"LBR", frame),
+        3 => print_loopback(rt, b"LBM", frame),
+        33 => print_alarm(rt, b"AIS", frame),
+        35 => print_alarm(rt, b"LCK", frame),
+        42 => print_loss(rt, b"LMR", frame),
+        43 => print_loss(rt, b"LMM", frame),
+        46 => print_delay(rt, b"DMR", frame),
+        47 => print_delay(rt, b"DMM", frame),
         _ => Ok(()),
     }
 }
@@ -145,7 +146,7 @@ fn print_tlv(rt: &impl Print, frame: &[u8], kind: u8) -> io::Result<()> {
     let value = tlv_value(frame, kind);
     print!(rt; "value {}", value.len())?;
     if 0 < value.len() {
-        print_octets(rt, " ", value)?;
+        print_octets(rt, b" ", value)?;
     }
     Ok(())
 }
@@ -277,8 +278,7 @@ fn end_line(rt: &(impl Print + Eprint), line: &[u8; LINE], marks: Marks) -> io::
     let at = marks.at;
     if marks.wrong | marks.half {
         println!(rt; "not octets")?;
-        let number = marks.number;
-        let _ = eprintln!(rt; "frames: line {number}: not octets");
+        let _ = eprintln!(rt; "frames: line {}: not octets", marks.number);
         return Ok(());
     }
     if at < 1 {

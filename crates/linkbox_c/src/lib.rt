@@ -5,6 +5,7 @@
 // length, and a struct by value. Any content of the memory is accepted. The caller must pass pointers to memory of these sizes, and what is
 // written must overlap nothing else that is passed in.
 #![tactic(auto)]
+
 ghost use Rattle.std.specs.Prelude.{[], ◌≡◌};
 ghost use Rattle.base_laws.specs.Ended.{ended, wrote, told_by};
 ghost use Rattle.state_settings.specs.Settings.{slots, lent_settings, Shaped};
@@ -79,24 +80,13 @@ pub extern "C" fn linkbox_raw_frame(
     transmit: Stamp,
     out: &mut [u8],
 ) -> FrameTold
-    ensures out_after { ended result (after set names ids timers rdi run totals) out.new ≡ told_by frame_told
-        (frame_of (before set names ids timers rdi run totals) (side_of side) frame.now receive transmit out.old) }
+    ensures out_after { ended result (after set names ids timers.new rdi.new run.new totals.new) out.new ≡ told_by frame_told
+        (frame_of (before set names ids timers.old rdi.old run.old totals.old) (side_of side) frame.now receive transmit out.old) }
     ensures whole { Whole run.new totals.new }
     ensures wire { Wire receive × Wire transmit }
 {
     linkbox_frame::linkbox_raw_frame(
-        set,
-        names,
-        ids,
-        timers,
-        rdi,
-        run,
-        totals,
-        side,
-        frame,
-        receive,
-        transmit,
-        out,
+        set, names, ids, timers, rdi, run, totals, side, frame, receive, transmit, out,
     )
 }
 
@@ -112,8 +102,8 @@ pub extern "C" fn linkbox_raw_tick(
     totals: &Totals,
     out: &mut [u8],
 ) -> WrittenTold
-    ensures out_after { ended result (after_tick set names ids timers rdi run totals) out.new ≡
-        told_by tick_told (tick_of (before set names ids timers rdi run totals) out.old) }
+    ensures out_after { ended result (after_tick set names ids timers.new rdi.now run.new totals.now) out.new ≡
+        told_by tick_told (tick_of (before set names ids timers.old rdi.now run.old totals.now) out.old) }
     ensures whole { Whole run.new totals.now }
 {
     linkbox_send::linkbox_raw_tick(set, names, ids, timers, rdi, run, totals, out)
@@ -130,7 +120,7 @@ pub extern "C" fn linkbox_raw_ticks_to_next(
     run: &Run,
     totals: &Totals,
 ) -> u32
-    ensures { result ≡ ticks_to_next (before set names ids timers rdi run totals) }
+    ensures { result ≡ ticks_to_next (before set names ids timers.now rdi.now run.now totals.now) }
 {
     linkbox_send::linkbox_raw_ticks_to_next(set, names, ids, timers, rdi, run, totals)
 }
@@ -146,8 +136,8 @@ pub extern "C" fn linkbox_raw_clear(
     run: &mut Run,
     totals: &mut Totals,
 ) -> u32
-    ensures totals_value { ended result (after_session set names ids timers rdi run totals) [] ≡
-        told_by (λ answer. (clear_told answer).refusal) (clear_of (before set names ids timers rdi run totals)) }
+    ensures totals_value { ended result (after_session set names ids timers.now rdi.now run.new totals.new) [] ≡
+        told_by (λ answer. (clear_told answer).refusal) (clear_of (before set names ids timers.now rdi.now run.old totals.old)) }
     ensures whole { Whole run.new totals.new }
 {
     linkbox_state::linkbox_raw_clear(set, names, ids, timers, rdi, run, totals)
@@ -165,8 +155,8 @@ pub extern "C" fn linkbox_raw_send_lmm(
     totals: &Totals,
     out: &mut [u8],
 ) -> WrittenTold
-    ensures { ended result (before set names ids timers rdi run totals) out.new ≡
-        told_by lmm_told (send_lmm (before set names ids timers rdi run totals) out.old) }
+    ensures { ended result (before set names ids timers.now rdi.now run.now totals.now) out.new ≡
+        told_by lmm_told (send_lmm (before set names ids timers.now rdi.now run.now totals.now) out.old) }
 {
     linkbox_send::linkbox_raw_send_lmm(set, names, ids, timers, rdi, run, totals, out)
 }
@@ -184,8 +174,8 @@ pub extern "C" fn linkbox_raw_send_dmm(
     stamp: Stamp,
     out: &mut [u8],
 ) -> WrittenTold
-    ensures out_after { ended result (before set names ids timers rdi run totals) out.new ≡
-        told_by dmm_told (send_dmm (before set names ids timers rdi run totals) stamp out.old) }
+    ensures out_after { ended result (before set names ids timers.now rdi.now run.now totals.now) out.new ≡
+        told_by dmm_told (send_dmm (before set names ids timers.now rdi.now run.now totals.now) stamp out.old) }
     ensures wire { Wire stamp }
 {
     linkbox_send::linkbox_raw_send_dmm(set, names, ids, timers, rdi, run, totals, stamp, out)
@@ -202,7 +192,7 @@ pub extern "C" fn linkbox_raw_conditions(
     run: &Run,
     totals: &Totals,
 ) -> ConditionsTold
-    ensures { result ≡ conditions_of (before set names ids timers rdi run totals) }
+    ensures { result ≡ conditions_of (before set names ids timers.now rdi.now run.now totals.now) }
 {
     linkbox_state::linkbox_raw_conditions(set, names, ids, timers, rdi, run, totals)
 }
@@ -219,7 +209,7 @@ pub extern "C" fn linkbox_raw_loss_line(
     totals: &Totals,
     into: &mut [u8],
 ) -> RecordTold
-    ensures { wrote result into.new ≡ loss_line_of (before set names ids timers rdi run totals) into.old }
+    ensures { wrote result into.new ≡ loss_line_of (before set names ids timers.now rdi.now run.now totals.now) into.old }
 {
     linkbox_line::linkbox_raw_loss_line(set, names, ids, timers, rdi, run, totals, into)
 }

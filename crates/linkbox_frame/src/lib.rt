@@ -2,6 +2,7 @@
 // It is for firmware in C or Rust: linkbox_c exports it, and linkbox_raw.h declares it. It calls the Rattle function of the same call and
 // returns its answer in numbers. Any content of the memory is accepted.
 #![tactic(auto)]
+
 ghost use Rattle.std.specs.Prelude.{◌≡◌};
 ghost use Rattle.base_laws.specs.Ended.{ended, told_by};
 ghost use Rattle.state_view.specs.State.{before, after};
@@ -43,8 +44,8 @@ pub fn linkbox_raw_frame(
     transmit: Stamp,
     out: &mut [u8],
 ) -> FrameTold
-    ensures out_after { ended result (after set names ids timers rdi run totals) out.new ≡ told_by frame_told
-        (frame_of (before set names ids timers rdi run totals) (side_of side) frame.now receive transmit out.old) }
+    ensures out_after { ended result (after set names ids timers.new rdi.new run.new totals.new) out.new ≡ told_by frame_told
+        (frame_of (before set names ids timers.old rdi.old run.old totals.old) (side_of side) frame.now receive transmit out.old) }
     ensures whole { Whole run.new totals.new }
     ensures wire { Wire receive × Wire transmit }
 {

@@ -3,6 +3,7 @@
 // minute, and the session's own words are written as they are. The session of a well-formed state keeps the rules of a line, so the
 // writer's refusal 4 never comes (`linkbox_line.LossLines`). Any content of the memory is accepted.
 #![tactic(auto)]
+
 ghost use Rattle.std.specs.Prelude.{◌≡◌};
 ghost use Rattle.base_laws.specs.Ended.{wrote};
 ghost use Rattle.state_view.specs.State.{before, session_in};
@@ -39,7 +40,7 @@ pub fn linkbox_raw_loss_line(
     totals: &Totals,
     into: &mut [u8],
 ) -> RecordTold
-    ensures { wrote result into.new ≡ loss_line_of (before set names ids timers rdi run totals) into.old }
+    ensures { wrote result into.new ≡ loss_line_of (before set names ids timers.now rdi.now run.now totals.now) into.old }
 {
     if !is_well_formed(set, names, ids, timers, rdi, run, totals) {
         return RecordTold {

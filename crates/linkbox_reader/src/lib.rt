@@ -2,6 +2,7 @@
 // It is for firmware in C or Rust: linkbox_c exports it, and linkbox.h declares it. It calls the Rattle function of the same call and
 // returns its answer in numbers. Any content of the memory is accepted.
 #![tactic(auto)]
+
 ghost use Rattle.std.specs.Prelude.{◌≡◌};
 ghost use Rattle.frame_reader_answer.specs.Told.{tlv_told};
 ghost use Rattle.frame_seek.specs.Seek.{seek_of};

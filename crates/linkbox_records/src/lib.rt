@@ -2,6 +2,7 @@
 // These are for firmware in C or Rust: linkbox_c exports them, and linkbox.h and linkbox_raw.h declare them. Each calls the Rattle function
 // of the same call and returns its answer in numbers. Any content of the memory is accepted.
 #![tactic(auto)]
+
 ghost use Rattle.std.specs.Prelude.{◌≡◌};
 ghost use Rattle.base_laws.specs.Ended.{wrote, told_by};
 ghost use Rattle.state_settings.specs.Settings.{slots, lent_settings, Shaped};

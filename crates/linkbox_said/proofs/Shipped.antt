@@ -13,7 +13,7 @@ use Rattle.receive_answer.specs.Told.{frame_told}
 use Rattle.base_laws.proofs.Tests.{known}
 use Rattle.state_settings.specs.Settings.{Settings, settings_of}
 use Rattle.state_view.specs.State.{State, shown}
-use Rattle.state_view.specs.Arguments.{behind}
+use Rattle.state_view.specs.Arguments.{behind, writes_all}
 use Rattle.state_view.specs.WellFormed.{well_formed}
 use Rattle.receive_answer.specs.declared.FrameTold.{FrameTold}
 use Rattle.receive_class.specs.declared.Side.{Side}
@@ -125,7 +125,7 @@ shipped = record {
   frame = λ κs a r s p w o q.
       let (is, (_, (receive, transmit))) = p in
       tied _ _ o (record { octets = w; receive = receive; transmit = transmit }) q
-      (frame-tells (state_in a) (behind a).0 (arrival_in (behind a)) refl r _ _ is);
+      (frame-tells (state_in writes_all a) (behind a).0 (arrival_in (behind a)) refl r _ _ is);
   tick = λ κs a r s p o q.
       let e = p.0 in
       tied _ _ o tt q (record {

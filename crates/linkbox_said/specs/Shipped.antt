@@ -6,7 +6,7 @@ use Rattle.state_settings.specs.Settings.{settings_of}
 use Rattle.loss_lent.specs.Lent.{Lent}
 use Rattle.loss_lent.specs.Said.{FollowsLent}
 use Rattle.state_view.specs.State.{State, shown}
-use Rattle.state_view.specs.Arguments.{behind}
+use Rattle.state_view.specs.Arguments.{reads, writes_session, writes_tick, writes_all, behind}
 use Rattle.state_view.specs.WellFormed.{WellFormed}
 use Rattle.stored_record.specs.Writing.{tell_record}
 use Rattle.call_conditions.specs.Conditions.{no_conditions}
@@ -56,20 +56,20 @@ pub record Shipped : Type 1 where
       → Tells (plain_says r.refusal) (counted r.refusal 0 0) (taken_over before r.refusal (shown r.state)) []
       (call.a_state (shown r.state)) o
   pub frame : (κs : _) (a : _) (r : _) (s : _) → frame.Post κs a r s → Octets (behind a).1.0.now → (o : Outcome)
-      → Said (state_in a) (call.frame (arrival_in (behind a))) o
+      → Said (state_in writes_all a) (call.frame (arrival_in (behind a))) o
       → Tells (frame_says r) (frame_as_numbers r) (left_by_frame a s) (behind s).1.1.1.1.0.now nothing o
-  pub tick : (κs : _) (a : _) (r : _) (s : _) → tick.Post κs a r s → (o : Outcome) → Said (state_in a) (call.tick (behind a).0.now) o
+  pub tick : (κs : _) (a : _) (r : _) (s : _) → tick.Post κs a r s → (o : Outcome) → Said (state_in writes_tick a) (call.tick (behind a).0.now) o
       → Tells (tick_says r) (counted r.refusal 0 r.length) (left_by_tick a s) (behind s).0.now nothing o
-  pub clear : (κs : _) (a : _) (r : _) (s : _) → clear.Post κs a r s → (o : Outcome) → Said (state_in a) call.clear o
+  pub clear : (κs : _) (a : _) (r : _) (s : _) → clear.Post κs a r s → (o : Outcome) → Said (state_in writes_session a) call.clear o
       → Tells (plain_says r) (counted r 0 0) (left_by_clear a s) [] nothing o
   pub send_lmm : (κs : _) (a : _) (r : _) (s : _) → send_lmm.Post κs a r s → (o : Outcome)
-      → Said (state_in a) (call.send_LMM (behind a).0.now) o
-      → Tells (send_says r) (counted r.refusal 0 r.length) (state_in a) (behind s).0.now nothing o
+      → Said (state_in reads a) (call.send_LMM (behind a).0.now) o
+      → Tells (send_says r) (counted r.refusal 0 r.length) (state_in reads a) (behind s).0.now nothing o
   pub send_dmm : (κs : _) (a : _) (r : _) (s : _) → send_dmm.Post κs a r s → (o : Outcome)
-      → Said (state_in a) (call.send_DMM (behind a).0 (behind a).1.0.now) o
-      → Tells (send_says r) (counted r.refusal 0 r.length) (state_in a) (behind s).1.0.now nothing o
-  pub conditions : (κs : _) (a : _) (r : _) (s : _) → conditions.Post κs a r s → (o : Outcome) → Said (state_in a) call.conditions o
-      → Tells (conditions_answer r) (counted r.refusal 0 0) (state_in a) [] nothing o
+      → Said (state_in reads a) (call.send_DMM (behind a).0 (behind a).1.0.now) o
+      → Tells (send_says r) (counted r.refusal 0 r.length) (state_in reads a) (behind s).1.0.now nothing o
+  pub conditions : (κs : _) (a : _) (r : _) (s : _) → conditions.Post κs a r s → (o : Outcome) → Said (state_in reads a) call.conditions o
+      → Tells (conditions_answer r) (counted r.refusal 0 0) (state_in reads a) [] nothing o
       × ((r.refusal ≡ 0 → ⊥) → r.conditions ≡ no_conditions)
 
 -- ── the calls beside a box ──
@@ -96,8 +96,8 @@ pub record ShippedBeside : Type 1 where
       × (record { refusal = r.refusal; drop = r.drop; value = r.value } ≡ tlv_heard o)
       × (r.value ≡ 0 → (r.start ≡ 0) × (r.length ≡ 0))
   -- a box's own loss line: 2 where the state is not well formed, and the buffer stays; else what is said of writing the session's line
-  pub loss_line_2 : (κs : _) (a : _) (r : _) (s : _) → loss_line.Post κs a r s → (WellFormed (state_in a) → ⊥)
+  pub loss_line_2 : (κs : _) (a : _) (r : _) (s : _) → loss_line.Post κs a r s → (WellFormed (state_in reads a) → ⊥)
       → (r ≡ tell_record 2 0) × ((behind s).0.now ≡ (behind a).0.now)
-  pub loss_line : (κs : _) (a : _) (r : _) (s : _) → loss_line.Post κs a r s → WellFormed (state_in a) → (o : RecordLeft)
-      → RecordSaid (stored.write_line (line_of (state_in a).session) (behind a).0.now) o
+  pub loss_line : (κs : _) (a : _) (r : _) (s : _) → loss_line.Post κs a r s → WellFormed (state_in reads a) → (o : RecordLeft)
+      → RecordSaid (stored.write_line (line_of (state_in reads a).session) (behind a).0.now) o
       → (leaving (write_says r) (behind s).0.now ≡ o) × (r ≡ write_heard o.answer)

@@ -3,6 +3,7 @@
 // or Rust: linkbox_c exports them, and linkbox_raw.h declares them. Each calls the Rattle function of the same call and returns its answer
 // in numbers. Any content of the memory is accepted.
 #![tactic(auto)]
+
 ghost use Rattle.std.specs.Prelude.{◌≡◌};
 ghost use Rattle.base_laws.specs.Ended.{ended, told_by};
 ghost use Rattle.state_view.specs.State.{before, after_tick};
@@ -34,8 +35,8 @@ pub fn linkbox_raw_tick(
     totals: &Totals,
     out: &mut [u8],
 ) -> WrittenTold
-    ensures out_after { ended result (after_tick set names ids timers rdi run totals) out.new ≡
-        told_by tick_told (tick_of (before set names ids timers rdi run totals) out.old) }
+    ensures out_after { ended result (after_tick set names ids timers.new rdi.now run.new totals.now) out.new ≡
+        told_by tick_told (tick_of (before set names ids timers.old rdi.now run.old totals.now) out.old) }
     ensures whole { Whole run.new totals.now }
 {
     let answer = call_tick::tick(set, names, ids, timers, rdi, run, totals, out);
@@ -53,8 +54,8 @@ pub fn linkbox_raw_send_lmm(
     totals: &Totals,
     out: &mut [u8],
 ) -> WrittenTold
-    ensures { ended result (before set names ids timers rdi run totals) out.new ≡
-        told_by lmm_told (send_lmm (before set names ids timers rdi run totals) out.old) }
+    ensures { ended result (before set names ids timers.now rdi.now run.now totals.now) out.new ≡
+        told_by lmm_told (send_lmm (before set names ids timers.now rdi.now run.now totals.now) out.old) }
 {
     let answer = send_lmm(set, names, ids, timers, rdi, run, totals, out);
     tell_lmm(answer)
@@ -72,8 +73,8 @@ pub fn linkbox_raw_send_dmm(
     stamp: Stamp,
     out: &mut [u8],
 ) -> WrittenTold
-    ensures out_after { ended result (before set names ids timers rdi run totals) out.new ≡
-        told_by dmm_told (send_dmm (before set names ids timers rdi run totals) stamp out.old) }
+    ensures out_after { ended result (before set names ids timers.now rdi.now run.now totals.now) out.new ≡
+        told_by dmm_told (send_dmm (before set names ids timers.now rdi.now run.now totals.now) stamp out.old) }
     ensures wire { Wire stamp }
 {
     let answer = send_dmm(set, names, ids, timers, rdi, run, totals, stamp, out);
@@ -90,7 +91,7 @@ pub fn linkbox_raw_ticks_to_next(
     run: &Run,
     totals: &Totals,
 ) -> u32
-    ensures { result ≡ ticks_to_next (before set names ids timers rdi run totals) }
+    ensures { result ≡ ticks_to_next (before set names ids timers.now rdi.now run.now totals.now) }
 {
     if !is_well_formed(set, names, ids, timers, rdi, run, totals) {
         return 0;

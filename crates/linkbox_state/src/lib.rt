@@ -3,6 +3,7 @@
 // linkbox_c exports them, and linkbox.h and linkbox_raw.h declare them. Each calls the Rattle function of the same call and returns its
 // answer in numbers. Any content of the memory is accepted.
 #![tactic(auto)]
+
 ghost use Rattle.std.specs.Prelude.{[], ◌≡◌};
 ghost use Rattle.state_settings.specs.Settings.{slots, lent_settings, Shaped};
 ghost use Rattle.base_laws.specs.Ended.{ended, told_by};
@@ -36,8 +37,8 @@ pub fn linkbox_raw_clear(
     run: &mut Run,
     totals: &mut Totals,
 ) -> u32
-    ensures totals_value { ended result (after_session set names ids timers rdi run totals) [] ≡
-        told_by (λ answer. (clear_told answer).refusal) (clear_of (before set names ids timers rdi run totals)) }
+    ensures totals_value { ended result (after_session set names ids timers.now rdi.now run.new totals.new) [] ≡
+        told_by (λ answer. (clear_told answer).refusal) (clear_of (before set names ids timers.now rdi.now run.old totals.old)) }
     ensures whole { Whole run.new totals.new }
 {
     let answer = call_clear::clear(set, names, ids, timers, rdi, run, totals);
@@ -55,7 +56,7 @@ pub fn linkbox_raw_conditions(
     run: &Run,
     totals: &Totals,
 ) -> ConditionsTold
-    ensures { result ≡ conditions_of (before set names ids timers rdi run totals) }
+    ensures { result ≡ conditions_of (before set names ids timers.now rdi.now run.now totals.now) }
 {
     call_conditions::conditions(set, names, ids, timers, rdi, run, totals)
 }

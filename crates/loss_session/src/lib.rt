@@ -1,5 +1,6 @@
 // A loss session: its readings, its intervals and its signed totals; cleared, and well formed. Rule 7 of the paper.
 #![tactic(auto)]
+
 ghost use Rattle.std.specs.Prelude.{◌≡◌, nat_abs};
 ghost use Rattle.loss_session.specs.Session.{cleared_session, all_zero, well_formed};
 

@@ -3,14 +3,14 @@ use Prim.Native.Nat.{ℕ}
 use mathlib.Core.Path.{◌≡◌, refl, sym, ap, ap₂, ◌∙◌}
 use mathlib.Core.Bool.{Bool, true, false, cond}
 use mathlib.Core.List.{List, []}
-use denote.Ref.{Bor}
+use Rattle.std.specs.Borrow.{Bor, MutBor}
 use Rattle.base_octets.specs.Octets.{Octets}
 use Rattle.base_octets.proofs.Octets.{part-octets}
 use Rattle.state_settings.specs.Settings.{slots, Settings, settings_of, Shaped, address_octets, meg_octets, own_from, losspeer_from, meg_from}
 use Rattle.state_settings.specs.Valid.{valid}
 use Rattle.base_stamp.specs.declared.Stamp.{Stamp}
 use Rattle.state_view.specs.State.{State, shown}
-use Rattle.state_view.specs.Arguments.{held, behind, fifth, left, left_tick, left_session}
+use Rattle.state_view.specs.Arguments.{reads, writes_session, writes_tick, writes_all, held, behind, fifth, left, left_tick, left_session}
 use Rattle.receive_class.specs.declared.Side.{Side}
 use Rattle.receive_class.specs.declared.Side.TheVariants as side
 use Rattle.call_setting.specs.declared.SettingAnswer.{SettingAnswer}
@@ -47,7 +47,7 @@ side-back side.Passive = refl
 
 -- a frame as it is handed over behind the arrays: its side, its octets, two stamps, the buffer
 abbrev Framed : Type 0 → Type 0
-Framed X = Side × (Bor (List ℕ) × (Stamp × (Stamp × (Bor (List ℕ) × X))))
+Framed X = Side × (Bor (List ℕ) × (Stamp × (Stamp × (MutBor (List ℕ) × X))))
 
 abbrev arrival : {X : Type 0} → Framed X → Arrival
 arrival b =
@@ -59,34 +59,34 @@ abbrev on_side : State → Arrival → Side → Outcome
 on_side s x d = in_words frame_answer (frame_of s d x.octets x.receive x.transmit x.buffer)
 
 pub on-frame-follows : (κs : _) (a : _) (r : _) (s : _) → on_frame.Post κs a r s → (o : Outcome) → Octets (arrival (behind a)).octets
-    → Said (shown (held a)) (call.frame (arrival (behind a))) o → leaves (frame_answer r) (shown (left a s)) (fifth (behind s)).now ≡ o
+    → Said (shown (held writes_all a)) (call.frame (arrival (behind a))) o → leaves (frame_answer r) (shown (left a s)) (fifth (behind s)).now ≡ o
 on-frame-follows κs a r s p o w q =
     let (is, (_, (_, (receive, transmit)))) = p in
     ap (in_words frame_answer) is
-    ∙ ap (on_side (shown (held a)) (arrival (behind a))) (sym (side-back (behind a).0))
+    ∙ ap (on_side (shown (held writes_all a)) (arrival (behind a))) (sym (side-back (behind a).0))
     ∙ ours-follows.box.follows _ _ o (record { octets = w; receive = receive; transmit = transmit }) q
 
 pub tick-follows : (κs : _) (a : _) (r : _) (s : _) → tick.Post κs a r s → (o : Outcome)
-    → Said (shown (held a)) (call.tick (behind a).0.now) o → leaves (tick_answer r) (shown (left_tick a s)) (behind s).0.now ≡ o
+    → Said (shown (held writes_tick a)) (call.tick (behind a).0.now) o → leaves (tick_answer r) (shown (left_tick a s)) (behind s).0.now ≡ o
 tick-follows κs a r s p o q = ap (in_words tick_answer) p.0.0 ∙ ours-follows.box.follows _ _ o tt q
 
 pub clear-follows : (κs : _) (a : _) (r : _) (s : _) → clear.Post κs a r s → (o : Outcome)
-    → Said (shown (held a)) call.clear o → leaves (clear_answer r) (shown (left_session a s)) [] ≡ o
+    → Said (shown (held writes_session a)) call.clear o → leaves (clear_answer r) (shown (left_session a s)) [] ≡ o
 clear-follows κs a r s p o q = ap (in_words clear_answer) p.0.0 ∙ ours-follows.box.follows _ _ o tt q
 
 pub send_lmm-follows : (κs : _) (a : _) (r : _) (s : _) → send_lmm.Post κs a r s → (o : Outcome)
-    → Said (shown (held a)) (call.send_LMM (behind a).0.now) o → leaves (lmm_answer r) (shown (held a)) (behind s).0.now ≡ o
+    → Said (shown (held reads a)) (call.send_LMM (behind a).0.now) o → leaves (lmm_answer r) (shown (held reads a)) (behind s).0.now ≡ o
 send_lmm-follows κs a r s p o q = ap (in_words lmm_answer) p.0 ∙ ours-follows.box.follows _ _ o tt q
 
 pub send_dmm-follows : (κs : _) (a : _) (r : _) (s : _) → send_dmm.Post κs a r s → (o : Outcome)
-    → Said (shown (held a)) (call.send_DMM (behind a).0 (behind a).1.0.now) o
-    → leaves (dmm_answer r) (shown (held a)) (behind s).1.0.now ≡ o
+    → Said (shown (held reads a)) (call.send_DMM (behind a).0 (behind a).1.0.now) o
+    → leaves (dmm_answer r) (shown (held reads a)) (behind s).1.0.now ≡ o
 send_dmm-follows κs a r s p o q = ap (in_words dmm_answer) p.0.0 ∙ ours-follows.box.follows _ _ o p.1 q
 
 pub conditions-follows : (κs : _) (a : _) (r : _) (s : _) → conditions.Post κs a r s → (o : Outcome)
-    → Said (shown (held a)) call.conditions o → leaves (conditions_answer r) (shown (held a)) [] ≡ o
+    → Said (shown (held reads a)) call.conditions o → leaves (conditions_answer r) (shown (held reads a)) [] ≡ o
 conditions-follows κs a r s p o q =
-    ap (λ (t : ConditionsTold). leaves (conditions_answer t) (shown (held a)) []) p ∙ ours-follows.box.follows _ _ o tt q
+    ap (λ (t : ConditionsTold). leaves (conditions_answer t) (shown (held reads a)) []) p ∙ ours-follows.box.follows _ _ o tt q
 
 -- settings that lie in arrays have their lengths, and their octets are the names'
 pub from_arrays : (words names ids : List ℕ) → Shaped slots (settings_of words names ids) → Octets names

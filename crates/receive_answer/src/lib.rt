@@ -2,6 +2,7 @@
 // What was done has a number of ours, 1 to 7, beside the paper's refusals, drops and values: these alone do not distinguish a frame that
 // passes from one that is taken in, nor a first reading from an interval without loss.
 #![tactic(auto)]
+
 ghost use Rattle.std.specs.Prelude.{◌≡◌};
 ghost use Rattle.receive_answer.specs.Told.{drop_of, absent, tell_frame, frame_told};
 

@@ -44,8 +44,8 @@ pub fn carry_out(
     decision: Decision,
     out: &mut [u8],
 ) -> FrameAnswer
-    ensures out_after { ended result (after set names ids timers rdi run totals) out.new ≡
-        carried_out (before set names ids timers rdi run totals) frame.now receive transmit out.old decision }
+    ensures out_after { ended result (after set names ids timers.new rdi.new run.new totals.new) out.new ≡
+        carried_out (before set names ids timers.old rdi.old run.old totals.old) frame.now receive transmit out.old decision }
     ensures whole { Whole run.new totals.new }
 {
     // a view of an array has its length, and costs nothing

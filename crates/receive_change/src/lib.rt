@@ -64,8 +64,8 @@ fn take_counts(
     rxf: u32,
     txb: u32,
 ) -> FrameAnswer
-    ensures totals_value { ended result (after_session set names ids timers rdi run totals) [] ≡
-        read_taken (before set names ids timers rdi run totals) txf rxf txb }
+    ensures totals_value { ended result (after_session set names ids timers.now rdi.now run.new totals.new) [] ≡
+        read_taken (before set names ids timers.now rdi.now run.old totals.old) txf rxf txb }
     ensures whole { Whole run.new totals.new }
 {
     let reading = Readings {
@@ -93,8 +93,8 @@ pub fn apply(
     totals: &mut Totals,
     change: Change,
 ) -> FrameAnswer
-    ensures totals_value { ended result (after set names ids timers rdi run totals) [] ≡
-        applied (before set names ids timers rdi run totals) change }
+    ensures totals_value { ended result (after set names ids timers.new rdi.new run.new totals.new) [] ≡
+        applied (before set names ids timers.old rdi.old run.old totals.old) change }
     ensures whole { Whole run.new totals.new }
 {
     // a view of an array has its length, and costs nothing

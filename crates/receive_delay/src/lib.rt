@@ -2,6 +2,7 @@
 // The caller's nanoseconds are not judged here: refusal 6 has done that before a frame is read, and the delay of any receive stamp fits
 // in 64 bits. In numbers a two-way result looks the same as three delays whose one-way parts are 0. Beside a drop every other value is 0.
 #![tactic(auto)]
+
 ghost use Rattle.std.specs.Prelude.{◌≡◌, ◌≤◌, nat_abs, ◌-ℤ◌};
 ghost use Rattle.std.specs.Int.{w64};
 ghost use Rattle.std.proofs.Common.{SFits};

@@ -38,10 +38,10 @@ pub fn on_frame(
     transmit: Stamp,
     out: &mut [u8],
 ) -> FrameAnswer
-    ensures out_after { ended result (after set names ids timers rdi run totals) out.new ≡
-        frame_of (before set names ids timers rdi run totals) side frame.now receive transmit out.old }
+    ensures out_after { ended result (after set names ids timers.new rdi.new run.new totals.new) out.new ≡
+        frame_of (before set names ids timers.old rdi.old run.old totals.old) side frame.now receive transmit out.old }
     ensures result_value { frame_told result ≡
-        frame_numbers (before set names ids timers rdi run totals) side frame.now receive transmit out.old }
+        frame_numbers (before set names ids timers.old rdi.old run.old totals.old) side frame.now receive transmit out.old }
     ensures whole { Whole run.new totals.new }
     ensures wire { Wire receive × Wire transmit }
 {

@@ -60,9 +60,9 @@ pub fn respond(
     out: &mut [u8],
 ) -> FrameAnswer
     ensures value { result ≡
-        responded_of (before set names ids timers rdi run totals) frame.now receive transmit out.old request }
+        responded_of (before set names ids timers.now rdi.now run.now totals.now) frame.now receive transmit out.old request }
     ensures out_after { out.new ≡
-        left_after (before set names ids timers rdi run totals) frame.now receive transmit out.old request }
+        left_after (before set names ids timers.now rdi.now run.now totals.now) frame.now receive transmit out.old request }
 {
     let own = own_address(names);
     match request {

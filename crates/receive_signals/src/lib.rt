@@ -47,7 +47,7 @@ pub fn set_timers(
     totals: &Totals,
     signal: Signal,
 )
-    ensures totals_value { after_signal set names ids timers rdi run totals ≡ signalled (before set names ids timers rdi run totals) signal }
+    ensures totals_value { after_signal set names ids timers.new rdi.new run.new totals.now ≡ signalled (before set names ids timers.old rdi.old run.old totals.now) signal }
     ensures whole { Whole run.new totals.now }
 {
     // a view of an array has its length, and costs nothing

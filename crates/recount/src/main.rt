@@ -44,65 +44,68 @@ fn read_full(input: &mut impl Read, buffer: &mut [u8]) -> usize
 }
 
 // A word on standard error, a number, and a word after it.
-fn say(rt: &impl Eprint, before: &str, n: u64, after: &str) {
-    let _ = eprint!(rt; "{before}{n}{after}");
+fn say(err: &impl Print, before: &[u8], n: u64, after: &[u8]) {
+    let _ = err.write_all(before);
+    let _ = err.print(n);
+    let _ = err.write_all(after);
 }
 
 // The replies that a session has taken since it was cleared: each but the first is the end of an interval.
 fn replies(session: LossSession) -> u64
+    ensures { result < 8589934592 } -> u64
     ensures { result < 8589934592 }
 {
     session.kept as u64 + session.intervals as u64
 }
 
 // Says which reply is the next, counted from 1, and the octet where it begins, counted from 0.
-fn say_next(rt: &impl Eprint, session: LossSession) {
+fn say_next(err: &impl Print, session: LossSession) {
     let taken = replies(session);
-    say(rt, "recount: reply ", taken + 1, ", at octet ");
-    say(rt, "", taken * 16, ": ");
+    say(err, b"recount: reply ", taken + 1, b", at octet ");
+    say(err, b"", taken * 16, b": ");
 }
 
 // Says how many replies were worked.
-fn say_count(rt: &impl Eprint, session: LossSession) {
-    say(rt, "recount: replies worked: ", replies(session), "\n");
+fn say_count(err: &impl Print, session: LossSession) {
+    say(err, b"recount: replies worked: ", replies(session), b"\n");
 }
 
 // Writes the first n records; returns whether all were written.
-fn print(rt: &(impl Print + Eprint), records: &[u8; ROOM], n: usize) -> bool {
+fn print(out: &impl Print, err: &impl Print, records: &[u8; ROOM], n: usize) -> bool {
     let all: &[u8] = records;
     if all.len() / LINE < n {
         return false;
     }
-    if rt.write_all(&all[0..n * LINE]).is_ok() {
+    if out.write_all(&all[0..n * LINE]).is_ok() {
         return true;
     }
-    let _ = eprintln!(rt; "recount: standard output takes no more");
+    let _ = err.write_all(b"recount: standard output takes no more\n");
     false
 }
 
 // Says why it ends, if it does; returns whether it goes on. The session is well formed and the room is enough, so nothing is ever refused.
-fn goes_on(rt: &impl Eprint, session: LossSession, refusal: u32, halted: u32, left: usize) -> bool {
+fn goes_on(err: &impl Print, session: LossSession, refusal: u32, halted: u32, left: usize) -> bool {
     if refusal != 0 {
-        say(rt, "recount: refused ", refusal as u64, "\n");
+        say(err, b"recount: refused ", refusal as u64, b"\n");
         return false;
     }
     if halted != 0 {
-        say_next(rt, session);
+        say_next(err, session);
         say(
-            rt,
-            "refused ",
+            err,
+            b"refused ",
             halted as u64,
-            ", no interval is left for it\n",
+            b", no interval is left for it\n",
         );
         return false;
     }
     if left != 0 {
-        say_next(rt, session);
+        say_next(err, session);
         say(
-            rt,
-            "cut short, ",
+            err,
+            b"cut short, ",
             left as u64,
-            " of its 16 octets are there\n",
+            b" of its 16 octets are there\n",
         );
         return false;
     }
@@ -110,7 +113,12 @@ fn goes_on(rt: &impl Eprint, session: LossSession, refusal: u32, halted: u32, le
 }
 
 // Reads a chunk and writes the records of its replies.
-fn work_chunk(rt: &(impl Print + Eprint), input: &mut impl Read, session: LossSession) -> Turn {
+fn work_chunk(
+    input: &mut impl Read,
+    out: &impl Print,
+    err: &impl Print,
+    session: LossSession,
+) -> Turn {
     let mut chunk = [0u8; CHUNK];
     let got = read_full(input, &mut chunk);
     if got == 0 {
@@ -122,8 +130,8 @@ fn work_chunk(rt: &(impl Print + Eprint), input: &mut impl Read, session: LossSe
     let mut records = [0u8; ROOM];
     let done = recount(&mut records, &chunk[..got], session);
     let after = done.session;
-    let written = print(rt, &records, done.taken);
-    let fine = goes_on(rt, after, done.refusal, done.halted, got % REPLY);
+    let written = print(out, err, &records, done.taken);
+    let fine = goes_on(err, after, done.refusal, done.halted, got % REPLY);
     Turn {
         session: after,
         more: written & fine,
@@ -136,20 +144,22 @@ fn has_argument(rt: &impl Env) -> bool {
 }
 
 fn main(rt: HostRuntime) {
+    let mut input = rt.stdin();
+    let out = rt.stdout();
+    let err = rt.stderr();
     if has_argument(&rt) {
-        let _ = eprintln!(rt;
-            "usage: recount < RAW > RECORDS    (no arguments; raw loss replies in, stored loss lines out)"
+        let _ = err.write_all(
+            b"usage: recount < RAW > RECORDS    (no arguments; raw loss replies in, stored loss lines out)\n",
         );
         return;
     }
-    let mut input = rt.stdin();
     let mut session = cleared();
     // a loop must be shown to end, and nothing says that input does
     for _ in 0..u64::MAX {
-        let t = work_chunk(&rt, &mut input, session);
+        let t = work_chunk(&mut input, &out, &err, session);
         session = t.session;
         if !t.more {
-            say_count(&rt, session);
+            say_count(&err, session);
             return;
         }
     }

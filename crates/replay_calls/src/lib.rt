@@ -2,6 +2,7 @@
 // A call is a two-octet length of all that follows it, 2 to 2,000, a two-octet number from 257 to 272, and a body as long as the table
 // says. No function needs anything.
 #![tactic(auto)]
+
 ghost use Rattle.std.specs.Prelude.{◌≡◌};
 ghost use Rattle.replay_calls.specs.RecordedCalls.{row_of, call_length, hands_over, room_of};
 

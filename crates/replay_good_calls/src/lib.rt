@@ -2,6 +2,7 @@
 // The side of a frame is 0 or 1, and a buffer part has at most 1,600 octets. Anything else is a bad call. Tested once here, so that no
 // handler tests a length.
 #![tactic(auto)]
+
 ghost use Rattle.std.specs.Prelude.{◌≡◌};
 ghost use Rattle.replay_good_calls.specs.GoodCalls.{side_good, is_call};
 

@@ -2,6 +2,7 @@
 // Kept 1, the four readings of 4, near 8, far 8, intervals 4. Nothing is needed or tested: any 37 octets are a session, well formed or
 // not, and are shown as the same octets.
 #![tactic(auto)]
+
 ghost use Rattle.std.specs.Prelude.{◌≡◌};
 ghost use Rattle.replay_session.specs.Session.{session_at, session_octets};
 

@@ -66,7 +66,7 @@ pub fn state_octets(
     run: &Run,
     totals: &Totals,
 ) -> [u8; STATE]
-    ensures { result ≡ state_octets (before set names ids timers rdi run totals) }
+    ensures { result ≡ state_octets (before set names ids timers.now rdi.now run.now totals.now) }
 {
     // a view of an array has its length, and costs nothing
     let _names: &[u8] = names;

@@ -24,7 +24,7 @@ pub fn put_session(
     totals: &mut Totals,
     session: LossSession,
 )
-    ensures totals_value { after_session set names ids timers rdi run totals ≡ with_session session (before set names ids timers rdi run totals) }
+    ensures totals_value { after_session set names ids timers.now rdi.now run.new totals.new ≡ with_session session (before set names ids timers.now rdi.now run.old totals.old) }
     ensures whole { Whole run.new totals.new }
 {
     // a view of an array has its length, and costs nothing

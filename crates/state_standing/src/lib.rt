@@ -34,7 +34,7 @@ pub fn any_stands(
     run: &Run,
     totals: &Totals,
 ) -> bool
-    ensures { result ≡ standing (before set names ids timers rdi run totals) }
+    ensures { result ≡ standing (before set names ids timers.now rdi.now run.now totals.now) }
 {
     let heard = is_absent(front(timers, set[COUNT]), 0);
     !heard

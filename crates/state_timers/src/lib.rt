@@ -23,7 +23,7 @@ pub fn timers_good(
     totals: &Totals,
     hold: u32,
 ) -> bool
-    ensures { result ≡ timers_good (before set names ids timers rdi run totals) hold }
+    ensures { result ≡ timers_good (before set names ids timers.now rdi.now run.now totals.now) hold }
 {
     (run[MISMERGE] <= hold)
         & (run[UNEXPECTED_LEVEL] <= hold)

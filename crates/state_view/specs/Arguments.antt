@@ -1,29 +1,65 @@
 -- A call's arguments as they are passed in: the seven arrays of a state, which come first in every call, and what the call brings after
 -- them. Each place is named here once. Definitions only.
-use Rattle.std.specs.Prelude.{ℕ, List, ℤ}
-use Rattle.std.specs.Borrow.{Bor}
+use Rattle.std.specs.Prelude.{ℕ, Bool, true, false, List, ℤ}
+use Rattle.std.specs.Borrow.{Bor, MutBor}
 use Rattle.state_view.specs.declared.StateArrays.{StateArrays}
 
+-- an array that is lent, to be read or to be written, and what is in it
+abbrev pub Array : Bool → Type 0 → Type 0
+Array false A = Bor A
+Array true A = MutBor A
+
+abbrev pub in_array : (written : Bool) (A : Type 0) → Array written A → A
+in_array false A r = r.now
+in_array true A r = r.now
+
+-- which arrays a call may write: no call writes settings
+pub record Writes : Type 0 where
+  pub timers : Bool
+  pub rdi : Bool
+  pub run : Bool
+  pub totals : Bool
+
+-- a call that only reads; one that writes running words and totals; timers and running words; timers, RDI and running words; all four
+abbrev pub reads : Writes
+reads = record { timers = false; rdi = false; run = false; totals = false }
+
+abbrev pub writes_session : Writes
+writes_session = record { timers = false; rdi = false; run = true; totals = true }
+
+abbrev pub writes_tick : Writes
+writes_tick = record { timers = true; rdi = false; run = true; totals = false }
+
+abbrev pub writes_signal : Writes
+writes_signal = record { timers = true; rdi = true; run = true; totals = false }
+
+abbrev pub writes_all : Writes
+writes_all = record { timers = true; rdi = true; run = true; totals = true }
+
 -- seven arrays, and X after them
-abbrev pub Arrays : Type 0 → Type 0
-Arrays X = Bor (List ℕ) × (Bor (List ℕ) × (Bor (List ℕ) × (Bor (List ℕ) × (Bor (List ℕ) × (Bor (List ℕ) × (Bor (List ℤ) × X))))))
+abbrev pub Arrays : Writes → Type 0 → Type 0
+Arrays w X =
+    Bor (List ℕ)
+    × (Bor (List ℕ)
+    × (Bor (List ℕ)
+    × (Array w.timers (List ℕ) × (Array w.rdi (List ℕ) × (Array w.run (List ℕ) × (Array w.totals (List ℤ) × X))))))
 
 -- what is in them
-abbrev pub held : {X : Type 0} → Arrays X → StateArrays
-held a =
+abbrev pub held : (w : Writes) {X : Type 0} → Arrays w X → StateArrays
+held w a =
     let (set, (names, (ids, (timers, (rdi, (run, (totals, _))))))) = a in
     record {
       set = set.now;
       names = names.now;
       ids = ids.now;
-      timers = timers.now;
-      rdi = rdi.now;
-      run = run.now;
-      totals = totals.now;
+      timers = in_array w.timers (List ℕ) timers;
+      rdi = in_array w.rdi (List ℕ) rdi;
+      run = in_array w.run (List ℕ) run;
+      totals = in_array w.totals (List ℤ) totals;
     }
 
 -- what comes after them
-abbrev pub behind : {X : Type 0} → Arrays X → X
+abbrev pub behind : {A B C D E F G X : Type 0} → A × (B × (C × (D × (E × (F × (G × X)))))) → X
 behind a = let (_, (_, (_, (_, (_, (_, (_, x))))))) = a in x
 
 -- the last of five: the buffer of a call that brings a frame
@@ -43,17 +79,24 @@ anew h timers rdi run totals = record {
 }
 
 -- What a call leaves in the arrays: a were its arguments, s is what is left of them. This one may write all four.
-abbrev pub left : {X Y : Type 0} → Arrays X → Arrays Y → StateArrays
-left a s = anew (held a) (held s).timers (held s).rdi (held s).run (held s).totals
+abbrev pub left : {X Y : Type 0} → Arrays writes_all X → Arrays writes_all Y → StateArrays
+left a s =
+    anew (held writes_all a) (held writes_all s).timers (held writes_all s).rdi (held writes_all s).run (held writes_all s).totals
 
 -- one that writes running words and totals
-abbrev pub left_session : {X Y : Type 0} → Arrays X → Arrays Y → StateArrays
-left_session a s = anew (held a) (held a).timers (held a).rdi (held s).run (held s).totals
+abbrev pub left_session : {X Y : Type 0} → Arrays writes_session X → Arrays writes_session Y → StateArrays
+left_session a s =
+    let before = held writes_session a in
+    anew before before.timers before.rdi (held writes_session s).run (held writes_session s).totals
 
 -- one that writes timers and running words
-abbrev pub left_tick : {X Y : Type 0} → Arrays X → Arrays Y → StateArrays
-left_tick a s = anew (held a) (held s).timers (held a).rdi (held s).run (held a).totals
+abbrev pub left_tick : {X Y : Type 0} → Arrays writes_tick X → Arrays writes_tick Y → StateArrays
+left_tick a s =
+    let before = held writes_tick a in
+    anew before (held writes_tick s).timers before.rdi (held writes_tick s).run before.totals
 
 -- one that writes timers, RDI and running words
-abbrev pub left_signal : {X Y : Type 0} → Arrays X → Arrays Y → StateArrays
-left_signal a s = anew (held a) (held s).timers (held s).rdi (held s).run (held a).totals
+abbrev pub left_signal : {X Y : Type 0} → Arrays writes_signal X → Arrays writes_signal Y → StateArrays
+left_signal a s =
+    let before = held writes_signal a in
+    anew before (held writes_signal s).timers (held writes_signal s).rdi (held writes_signal s).run before.totals

@@ -2,7 +2,6 @@
 -- and 7. Definitions only.
 use Rattle.std.specs.Prelude.{ℕ, List, [], ◌∷◌, ℤ, pos, get_or}
 use Rattle.std.specs.Borrow.{Bor}
-use denote.Triple.Both.{Both}
 use Rattle.state_settings.specs.Settings.{Settings, settings_of, Lent}
 use Rattle.loss_session.specs.declared.LossSession.{LossSession}
 use Rattle.loss_session.specs.Session.{readings}
@@ -89,35 +88,26 @@ totals_of s = s.session.near ∷ s.session.far ∷ []
 abbrev pub shown : StateArrays → State
 shown a = view_of a.set a.names a.ids a.timers a.rdi a.run a.totals
 
--- and of lent arrays, as they are at a moment
-abbrev pub lying : Bor (List ℕ) → Bor (List ℕ) → Bor (List ℕ) → Bor (List ℕ) → Bor (List ℕ) → Bor (List ℕ) → Bor (List ℤ) → State
-lying set names ids timers rdi run totals = view_of set.now names.now ids.now timers.now rdi.now run.now totals.now
+-- and of arrays that are lent to a call: no call writes the settings, and of the others the content at a moment is named
+abbrev pub lying : Bor (List ℕ) → Bor (List ℕ) → Bor (List ℕ) → List ℕ → List ℕ → List ℕ → List ℤ → State
+lying set names ids timers rdi run totals = view_of set.now names.now ids.now timers rdi run totals
 
--- totals that are lent to a call, as they are when the call begins and when it ends
-abbrev pub LentTotals : Type 0
-LentTotals = Both (Bor (List ℤ)) (Bor (List ℤ))
+-- the state when a call begins: the other arrays as they are then
+abbrev pub before : Lent → Lent → Lent → List ℕ → List ℕ → List ℕ → List ℤ → State
+before set names ids timers rdi run totals = lying set.entry names.entry ids.entry timers rdi run totals
 
--- the state when a call begins
-abbrev pub before : Lent → Lent → Lent → Lent → Lent → Lent → LentTotals → State
-before set names ids timers rdi run totals =
-    lying set.entry names.entry ids.entry timers.entry rdi.entry run.entry totals.entry
-
--- the state when a call ends: the settings are never written
-abbrev pub after : Lent → Lent → Lent → Lent → Lent → Lent → LentTotals → State
-after set names ids timers rdi run totals =
-    lying set.entry names.entry ids.entry timers.exit rdi.exit run.exit totals.exit
+-- the state when a call ends: the other arrays as they are then, one that a call does not write as it was
+abbrev pub after : Lent → Lent → Lent → List ℕ → List ℕ → List ℕ → List ℤ → State
+after set names ids timers rdi run totals = lying set.entry names.entry ids.entry timers rdi run totals
 
 -- the same of a call that writes the running words and totals alone
-abbrev pub after_session : Lent → Lent → Lent → Lent → Lent → Lent → LentTotals → State
-after_session set names ids timers rdi run totals =
-    lying set.entry names.entry ids.entry timers.entry rdi.entry run.exit totals.exit
+abbrev pub after_session : Lent → Lent → Lent → List ℕ → List ℕ → List ℕ → List ℤ → State
+after_session set names ids timers rdi run totals = lying set.entry names.entry ids.entry timers rdi run totals
 
 -- of one that writes timers and running words
-abbrev pub after_tick : Lent → Lent → Lent → Lent → Lent → Lent → LentTotals → State
-after_tick set names ids timers rdi run totals =
-    lying set.entry names.entry ids.entry timers.exit rdi.entry run.exit totals.entry
+abbrev pub after_tick : Lent → Lent → Lent → List ℕ → List ℕ → List ℕ → List ℤ → State
+after_tick set names ids timers rdi run totals = lying set.entry names.entry ids.entry timers rdi run totals
 
 -- of one that writes timers, RDI and running words
-abbrev pub after_signal : Lent → Lent → Lent → Lent → Lent → Lent → LentTotals → State
-after_signal set names ids timers rdi run totals =
-    lying set.entry names.entry ids.entry timers.exit rdi.exit run.exit totals.entry
+abbrev pub after_signal : Lent → Lent → Lent → List ℕ → List ℕ → List ℕ → List ℤ → State
+after_signal set names ids timers rdi run totals = lying set.entry names.entry ids.entry timers rdi run totals

@@ -21,7 +21,7 @@ pub fn is_well_formed(
     run: &Run,
     totals: &Totals,
 ) -> bool
-    ensures { result ≡ well_formed (before set names ids timers rdi run totals) }
+    ensures { result ≡ well_formed (before set names ids timers.now rdi.now run.now totals.now) }
 {
     if !is_valid(set, names, ids) {
         return false;

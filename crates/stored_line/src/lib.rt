@@ -1,6 +1,7 @@
 // What a stored loss line is, kind 2, and what reading and writing one give, in cases and in the paper's numbers.
 // It holds the two totals of a session and the intervals that they cover.
 #![tactic(auto)]
+
 ghost use Rattle.std.specs.Prelude.{◌≡◌};
 ghost use Rattle.stored_line.specs.LineCalls.{line_told};
 

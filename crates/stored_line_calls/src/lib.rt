@@ -1,5 +1,6 @@
 // The stored record of a loss line, read and written.
 #![tactic(auto)]
+
 ghost use Rattle.std.specs.Prelude.{◌≡◌, ◌≤◌, length};
 ghost use Rattle.base_laws.specs.Ended.{wrote};
 ghost use Rattle.stored_record.specs.Writing as written;

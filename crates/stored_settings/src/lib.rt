@@ -2,6 +2,7 @@
 // The answer of a read is a struct with the refusal's number in it, and no enum: an enum that holds an array is not covered by the
 // toolchain.
 #![tactic(auto)]
+
 ghost use Rattle.std.specs.Prelude.{◌≡◌};
 ghost use Rattle.base_laws.specs.Ended.{wrote};
 ghost use Rattle.state_settings.specs.Settings.{slots, lent_settings, Shaped};

@@ -1,6 +1,7 @@
 // The body of a stored record of settings, written from the three arrays of settings.
 // Nothing is tested here.
 #![tactic(auto)]
+
 ghost use Rattle.std.specs.Prelude.{[], ◌≡◌, ◌+◌, ◌*◌, ◌≤◌, length};
 ghost use Rattle.base_laws.specs.Lists.{laid};
 ghost use Rattle.state_settings.specs.Settings.{settings_of, lent_settings};

@@ -2,8 +2,8 @@
 use native.Mathlib.Omega.{arith}
 use mathlib.Core.Path.{refl, ap, sym, ◌∙◌}
 use mathlib.Core.List.{List}
-use Prim.Native.Nat.{ℕ, ◌+◌, ◌-◌}
-use lib.ListN.{length, get_or, set, take, length-set}
+use Prim.Native.Nat.{ℕ, ◌+◌}
+use lib.ListN.{get_or, set, length-set}
 use lib.Seq.{take_all}
 use Rattle.base_laws.specs.Lists.{laid}
 use Rattle.base_laws.proofs.Overlaid.{laid_none}

@@ -12,29 +12,15 @@ use Rattle.frame_seek.specs.Seek.{in_frame, seek_in, seek_of, Within}
 use Rattle.frame_seek.proofs.Seeks.{of_length, of-service, of-pdu, within}
 use Rattle.frame_seek.proofs.seek_frame.Goals as goal
 
--- past the first test the length is good, past the second the frame is an OAM frame
+-- past both tests the PDU decides: what was found in it is put at its place in the frame, and lies in the frame
+module _ (frame : List ℕ) (kind : ℕ) (is-good : length_good frame ≡ true) (oam : is_oam frame ≡ true) where
+  found : {r s : Seek} {p : List ℕ} → r ≡ seek_in p kind → p ≡ pdu_of frame → r ≡ s → in_frame s ≡ seek_of frame kind
+  found is pdu e =
+      ap in_frame (sym e ∙ is ∙ ap (λ (p : List ℕ). seek_in p kind) pdu)
+      ∙ sym (of-pdu frame kind is-good oam)
 
--- so its PDU decides
-
-module _ (c : place.After-seek_pdu) where
-  abbrev frame : List ℕ
-  frame = c.args.frame.now
-
-  is-good : length_good frame ≡ true
-  is-good = good (search)
-
-  oam : is_oam frame ≡ true
-  oam = sym (oam-is frame is-good) ∙ sym c.is_oam.ensures ∙ c.if-not-is_oam.false
-
-  abbrev pdu : c.pdu_of.result.now ≡ pdu_of frame
-  pdu = c.pdu_of.ensures.0
-
-  found : {s : Seek} → c.seek_pdu.result ≡ s → in_frame s ≡ seek_of frame c.args.kind
-  found e = ap in_frame (sym e ∙ c.seek_pdu.ensures.0 ∙ ap (λ (p : List ℕ). seek_in p c.args.kind) pdu)
-      ∙ sym (of-pdu frame c.args.kind is-good oam)
-
-  lies : {s : Seek} → c.seek_pdu.result ≡ s → Within frame (in_frame s)
-  lies {s} e = within frame s (headed frame is-good) (rw pdu at (rw e at c.seek_pdu.ensures.1))
+  lies : {r s : Seek} {p : List ℕ} → Within p r → p ≡ pdu_of frame → r ≡ s → Within frame (in_frame s)
+  lies {s = s} w pdu e = within frame s (headed frame is-good) (rw pdu at (rw e at w))
 
 pub returns-then-not-length_good : goal.returns-then-not-length_good
 returns-then-not-length_good c = (sym (of_length _ _ (sym c.length_good.ensures ∙ c.if-not-length_good.true)), tt)
@@ -46,15 +32,31 @@ returns-then-not-is_oam c =
     (sym (of-service f _ good (sym (oam-is f good) ∙ sym c.is_oam.ensures ∙ c.if-not-is_oam.true)), tt)
 
 pub overflow_add-result : goal.overflow_add-result
-overflow_add-result c = omega (arith, lies c c.in-Value.is)
+overflow_add-result c =
+    let f = c.args.frame.now in
+    let good : length_good f ≡ true = sym c.length_good.ensures ∙ c.if-not-length_good.false in
+    let oam : is_oam f ≡ true = sym (oam-is f good) ∙ sym c.is_oam.ensures ∙ c.if-not-is_oam.false in
+    omega (arith, lies f c.args.kind good oam c.seek_pdu.ensures.1 c.pdu_of.ensures.0 c.in-Value.is)
 
 pub returns-in-Value : goal.returns-in-Value
-returns-in-Value c = let s = c in
-    let e = c.in-Value.is in
-    (found s e, lies s e)
+returns-in-Value c =
+    let f = c.args.frame.now in
+    let good : length_good f ≡ true = sym c.length_good.ensures ∙ c.if-not-length_good.false in
+    let oam : is_oam f ≡ true = sym (oam-is f good) ∙ sym c.is_oam.ensures ∙ c.if-not-is_oam.false in
+    let pdu = c.pdu_of.ensures.0 in
+    let seek = c.seek_pdu.ensures in
+    (found f c.args.kind good oam seek.0 pdu c.in-Value.is, lies f c.args.kind good oam seek.1 pdu c.in-Value.is)
 
 pub returns-in-NoSuch : goal.returns-in-NoSuch
-returns-in-NoSuch c = (found c c.in-NoSuch.is, tt)
+returns-in-NoSuch c =
+    let f = c.args.frame.now in
+    let good : length_good f ≡ true = sym c.length_good.ensures ∙ c.if-not-length_good.false in
+    let oam : is_oam f ≡ true = sym (oam-is f good) ∙ sym c.is_oam.ensures ∙ c.if-not-is_oam.false in
+    (found f c.args.kind good oam c.seek_pdu.ensures.0 c.pdu_of.ensures.0 c.in-NoSuch.is, tt)
 
 pub returns-in-Bad : goal.returns-in-Bad
-returns-in-Bad c = (found c c.in-Bad.is, tt)
+returns-in-Bad c =
+    let f = c.args.frame.now in
+    let good : length_good f ≡ true = sym c.length_good.ensures ∙ c.if-not-length_good.false in
+    let oam : is_oam f ≡ true = sym (oam-is f good) ∙ sym c.is_oam.ensures ∙ c.if-not-is_oam.false in
+    (found f c.args.kind good oam c.seek_pdu.ensures.0 c.pdu_of.ensures.0 c.in-Bad.is, tt)

@@ -53,5 +53,5 @@ returns c =
     let nearly = back d.loss_between-near.result near-loss-fits in
     let farther = back d.loss_between-far.result far-loss-fits in
     made o.args.s o.args.r _ _ _ _ (nearly ∙ d.loss_between-near.ensures.0) (farther ∙ d.loss_between-far.ensures.0)
-    (p.plus.ensures ∙ ap (λ (z : ℤ). z +ℤ to_z w64 (of_z w64 d.loss_between-near.result)) (back o.args.s.near near_fits))
-    (c.plus-2.ensures ∙ ap (λ (z : ℤ). z +ℤ to_z w64 (of_z w64 d.loss_between-far.result)) (back o.args.s.far far-fits))
+    (back p.plus.result (search rules) ∙ p.plus.ensures ∙ ap (λ (z : ℤ). z +ℤ to_z w64 (of_z w64 d.loss_between-near.result)) (back o.args.s.near near_fits))
+    (back c.plus-2.result (search rules) ∙ c.plus-2.ensures ∙ ap (λ (z : ℤ). z +ℤ to_z w64 (of_z w64 d.loss_between-far.result)) (back o.args.s.far far-fits))

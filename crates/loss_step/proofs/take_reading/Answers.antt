@@ -23,27 +23,27 @@ kept s r u e = (e, ap (λ (v : Updated). loss_told v.answer) e ∙ told-numbers 
 -- past the first test
 
 pub returns-then-not-well_formed : goal.returns-then-not-well_formed
-returns-then-not-well_formed c = kept _ _ _ (sym (reading-bad _ _ (sym c.well_formed-2.ensures ∙ not-true _ c.if-not-well_formed.true)))
+returns-then-not-well_formed c = kept _ _ _ (sym (reading-bad _ _ (sym c.well_formed-2.ensures ∙ c.if-not-well_formed.true)))
 
 pub returns-then-s-eq0 : goal.returns-then-s-eq0
 returns-then-s-eq0 c =
-    let good : well_formed c.args.s ≡ true = sym c.well_formed-2.ensures ∙ not-false _ c.if-not-well_formed.false in
+    let good : well_formed c.args.s ≡ true = sym c.well_formed-2.ensures ∙ c.if-not-well_formed.false in
     kept _ _ _ (sym (reading-first _ _ good c.if-s-eq0.true))
 
 pub returns-then-s-eq-MOST_INTERVALS : goal.returns-then-s-eq-MOST_INTERVALS
 returns-then-s-eq-MOST_INTERVALS c =
-    let good : well_formed c.args.s ≡ true = sym c.well_formed-2.ensures ∙ not-false _ c.if-not-well_formed.false in
+    let good : well_formed c.args.s ≡ true = sym c.well_formed-2.ensures ∙ c.if-not-well_formed.false in
     let d = c in
     kept _ _ _ (sym (reading-full _ _ good d.if-s-eq0.false c.if-s-eq-MOST_INTERVALS.true))
 
 pub measured-requires : goal.measured-requires
 measured-requires c =
-    let good : well_formed c.args.s ≡ true = sym c.well_formed-2.ensures ∙ not-false _ c.if-not-well_formed.false in
+    let good : well_formed c.args.s ≡ true = sym c.well_formed-2.ensures ∙ c.if-not-well_formed.false in
     let w = (well _).0 good in
     record { well_formed = w; intervals_lt_most_intervals = omega (arith, w.few, c.if-s-eq-MOST_INTERVALS.false) }
 
 pub returns : goal.returns
 returns c =
-    let good : well_formed c.args.s ≡ true = sym c.well_formed-2.ensures ∙ not-false _ c.if-not-well_formed.false in
+    let good : well_formed c.args.s ≡ true = sym c.well_formed-2.ensures ∙ c.if-not-well_formed.false in
     let d = c in
     kept _ _ _ (c.measured.ensures ∙ sym (reading-measured _ _ good d.if-s-eq0.false c.if-s-eq-MOST_INTERVALS.false))

@@ -51,5 +51,5 @@ returns c =
     (address.copy_octets.ensures ∙ ap (λ (xs : List ℕ). laid 0 xs l) group.multicast_of-group.ensures)
     head.write_head.ensures
     fixed.write_ccm_fixed.ensures in
-    let w = room (ccm_octets (address_at 0 f) (meg_named f) a.ccm) l 89 long fixed.write_ccm_fixed.auto.into test.false laid-all in
+    let w = room (ccm_octets (address_at 0 f) (meg_named f) a.ccm) l 89 long fixed.write_ccm_fixed.new.into test.false laid-all in
     record { value = w.0; into_after = (w.1, long) }

@@ -17,7 +17,8 @@ returns-then-into-lt-DMM_LENGTH c =
     let a = c.args in
     let f = a.names.now in
     let h : length f ≡ name_octets = search rules in
-    short f h a.level 47 32 (stamp_octets a.stamp) 8 25 (stamp-long a.stamp) a.into.now c.if-into-lt-DMM_LENGTH.true
+    let both = short f h a.level 47 32 (stamp_octets a.stamp) 8 25 (stamp-long a.stamp) a.into.now c.if-into-lt-DMM_LENGTH.true in
+    record { value = both.0; into_after = both.1 }
 
 pub slice_bounds-write_head-end : goal.slice_bounds-write_head-end
 slice_bounds-write_head-end c = own_first c.args.names.now (search rules)
@@ -38,10 +39,11 @@ returns c =
     let a = c.args in
     let f = a.names.now in
     let h : length f ≡ name_octets = search rules in
-    written f h a.level 47 32 (stamp_octets a.stamp) 8 25 (stamp-long a.stamp) a.into.now
+    let both = written f h a.level 47 32 (stamp_octets a.stamp) 8 25 (stamp-long a.stamp) a.into.now
     octet.first_octet.result test.if-into-lt-DMM_LENGTH.false
     octet.first_octet.ensures
     address.copy_octets.ensures
     head.write_head.ensures
     value.write_stamp.ensures
-    zeros.write_big.ensures
+    zeros.write_big.ensures in
+    record { value = both.0; into_after = both.1 }

@@ -18,9 +18,10 @@ returns-then-request-lt-DMM_FIXED c =
     let six : length c.args.own ≡ 6 = search rules in
     let s = c in
     let a = s.args in
-    cut_off_lem a.own a.request.now six 46 32 (pieces a.receive a.transmit) (within a.receive a.transmit)
+    let both = cut_off_lem a.own a.request.now six 46 32 (pieces a.receive a.transmit) (within a.receive a.transmit)
     a.into.now
-    c.if-request-lt-DMM_FIXED.true
+    c.if-request-lt-DMM_FIXED.true in
+    record { value = both.0; into_after = both.1 }
 
 pub returns-then-into-request : goal.returns-then-into-request
 unfolding dmr_octets over
@@ -28,9 +29,10 @@ returns-then-into-request c =
     let six : length c.args.own ≡ 6 = search rules in
     let s = c in
     let a = s.args in
-    no_room_lem a.own a.request.now six 46 32 (pieces a.receive a.transmit) (within a.receive a.transmit)
+    let both = no_room_lem a.own a.request.now six 46 32 (pieces a.receive a.transmit) (within a.receive a.transmit)
     a.into.now
-    c.if-request-lt-DMM_FIXED.false c.if-into-request.true
+    c.if-request-lt-DMM_FIXED.false c.if-into-request.true in
+    record { value = both.0; into_after = both.1 }
 
 pub returns : goal.returns
 unfolding dmr_octets over
@@ -42,7 +44,8 @@ returns c =
     let test = c in
     let s = c in
     let a = s.args in
-    written a.own a.request.now six 46 32 (pieces a.receive a.transmit) (within a.receive a.transmit)
+    let both = written a.own a.request.now six 46 32 (pieces a.receive a.transmit) (within a.receive a.transmit)
     a.into.now test.if-request-lt-DMM_FIXED.false test.if-into-request.false
     reply.write_reply.ensures
-    (second.write_stamp-2.ensures ∙ ap (laid 34 (stamp_octets a.transmit)) one.write_stamp.ensures)
+    (second.write_stamp-2.ensures ∙ ap (laid 34 (stamp_octets a.transmit)) one.write_stamp.ensures) in
+    record { value = both.0; into_after = both.1 }

@@ -15,7 +15,8 @@ returns-then-request-lt-LBM_FIXED c =
     let six : length c.args.own ≡ 6 = search rules in
     let s = c in
     let a = s.args in
-    cut_off_lem a.own a.request.now six 2 4 [] tt a.into.now c.if-request-lt-LBM_FIXED.true
+    let both = cut_off_lem a.own a.request.now six 2 4 [] tt a.into.now c.if-request-lt-LBM_FIXED.true in
+    record { value = both.0; into_after = both.1 }
 
 pub returns-then-into-request : goal.returns-then-into-request
 unfolding over Within
@@ -23,7 +24,8 @@ returns-then-into-request c =
     let six : length c.args.own ≡ 6 = search rules in
     let s = c in
     let a = s.args in
-    no_room_lem a.own a.request.now six 2 4 [] tt a.into.now c.if-request-lt-LBM_FIXED.false c.if-into-request.true
+    let both = no_room_lem a.own a.request.now six 2 4 [] tt a.into.now c.if-request-lt-LBM_FIXED.false c.if-into-request.true in
+    record { value = both.0; into_after = both.1 }
 
 pub returns : goal.returns
 unfolding over Within
@@ -33,5 +35,6 @@ returns c =
     let test = c in
     let s = c in
     let a = s.args in
-    written a.own a.request.now six 2 4 [] tt a.into.now test.if-request-lt-LBM_FIXED.false test.if-into-request.false
-    reply.write_reply.ensures refl
+    let both = written a.own a.request.now six 2 4 [] tt a.into.now test.if-request-lt-LBM_FIXED.false test.if-into-request.false
+    reply.write_reply.ensures refl in
+    record { value = both.0; into_after = both.1 }

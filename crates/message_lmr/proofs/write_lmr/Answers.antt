@@ -18,8 +18,9 @@ returns-then-request-lt-LMM_FIXED c =
     let six : length c.args.own ≡ 6 = search rules in
     let s = c in
     let a = s.args in
-    cut_off_lem a.own a.request.now six 42 12 (pieces a.received a.sent) (within a.received a.sent) a.into.now
-    c.if-request-lt-LMM_FIXED.true
+    let both = cut_off_lem a.own a.request.now six 42 12 (pieces a.received a.sent) (within a.received a.sent) a.into.now
+    c.if-request-lt-LMM_FIXED.true in
+    record { value = both.0; into_after = both.1 }
 
 pub returns-then-into-request : goal.returns-then-into-request
 unfolding lmr_octets over
@@ -27,8 +28,9 @@ returns-then-into-request c =
     let six : length c.args.own ≡ 6 = search rules in
     let s = c in
     let a = s.args in
-    no_room_lem a.own a.request.now six 42 12 (pieces a.received a.sent) (within a.received a.sent) a.into.now
-    c.if-request-lt-LMM_FIXED.false c.if-into-request.true
+    let both = no_room_lem a.own a.request.now six 42 12 (pieces a.received a.sent) (within a.received a.sent) a.into.now
+    c.if-request-lt-LMM_FIXED.false c.if-into-request.true in
+    record { value = both.0; into_after = both.1 }
 
 pub returns : goal.returns
 unfolding lmr_octets over
@@ -40,7 +42,8 @@ returns c =
     let test = c in
     let s = c in
     let a = s.args in
-    written a.own a.request.now six 42 12 (pieces a.received a.sent) (within a.received a.sent) a.into.now
+    let both = written a.own a.request.now six 42 12 (pieces a.received a.sent) (within a.received a.sent) a.into.now
     test.if-request-lt-LMM_FIXED.false test.if-into-request.false
     reply.write_reply.ensures
-    (second.write_big-2.ensures ∙ ap (laid 26 (count a.sent)) one.write_big.ensures)
+    (second.write_big-2.ensures ∙ ap (laid 26 (count a.sent)) one.write_big.ensures) in
+    record { value = both.0; into_after = both.1 }

@@ -1,5 +1,6 @@
 // Two runs of octets compared.
 #![tactic(auto)]
+
 ghost use Rattle.std.specs.Prelude.{◌≡◌};
 ghost use Rattle.base_laws.specs.Lists.{same};
 

@@ -2,6 +2,7 @@
 // is_absent is part of every call. It returns at the first word that is x: over few words, which a caller's loop counts, its turns are laid
 // out one after the other, a comparison and a jump each.
 #![tactic(auto)]
+
 ghost use Rattle.std.specs.Prelude.{◌≡◌};
 ghost use Rattle.base_laws.specs.Lists.{absent};
 

@@ -4,6 +4,7 @@
 // orders, and big-endian is little-endian from the other end. One function reads every width up to four octets and one writes it; a wire
 // number is a 32-bit word in the code, whatever its width on the wire.
 #![tactic(auto)]
+
 ghost use Rattle.std.specs.Prelude.{◌≡◌, ◌+◌, ◌≤◌, length};
 ghost use Rattle.base_laws.specs.Lists.{laid};
 ghost use Rattle.base_numbers.specs.Numbers.{in_octets, little_endian, big_endian, NumberAt};

@@ -3,6 +3,7 @@
 // run time would be copied to the stack first. That a hold time times 2 is its ticks times 7, for every code, is `base_period.hold_rule`,
 // computed once over both tables.
 #![tactic(auto)]
+
 ghost use Rattle.std.specs.Prelude.{◌≡◌};
 ghost use Rattle.base_period.specs.Periods.{ticks_of, hold_of, period_of};
 

@@ -2,6 +2,7 @@
 // Where the word does not fit from its place to the buffer's end, nothing changes and the same place is returned. Numbers are in
 // `base_number_write`, octets in `base_hex`.
 #![tactic(auto)]
+
 ghost use Rattle.std.specs.Prelude.{◌≡◌};
 ghost use Rattle.base_number_text.specs.Put.{put_at, behind};
 

@@ -2,6 +2,7 @@
 // Two tests are part of every call. all_within goes to the end without a way out: a loop of a fixed length becomes a few vector instructions.
 // zero_from goes down from the last word and joins words, not tests: its turns are then laid out one after the other.
 #![tactic(auto)]
+
 ghost use Rattle.std.specs.Prelude.{◌≡◌, drop};
 ghost use Rattle.base_laws.specs.Lists.{every, place_of};
 ghost use Rattle.base_words.specs.Words.{within};

@@ -2,6 +2,7 @@
 // Refusal 2 where the state is not well formed, and then nothing changes. No buffer is passed in. That nothing else ever changes,
 // whatever the answer, is `call_clear.clears`.
 #![tactic(auto)]
+
 ghost use Rattle.std.specs.Prelude.{[], ◌≡◌};
 ghost use Rattle.base_laws.specs.Ended.{ended};
 ghost use Rattle.state_view.specs.State.{before, after_session};

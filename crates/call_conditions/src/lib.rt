@@ -3,6 +3,7 @@
 // passed in. The answer is a struct with the refusal's number in it, and no enum, since an enum that holds an array is not covered by the
 // toolchain: so there is no `tell`.
 #![tactic(auto)]
+
 ghost use Rattle.std.specs.Prelude.{◌≡◌};
 ghost use Rattle.state_settings.specs.Settings.{slots};
 ghost use Rattle.state_view.specs.State.{before};

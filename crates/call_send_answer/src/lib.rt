@@ -2,6 +2,7 @@
 // Apart from the calls, so that a wrong number is tried in a crate of three matches. One struct serves all three: the
 // refusal and the length of what was written.
 #![tactic(auto)]
+
 ghost use Rattle.std.specs.Prelude.{◌≡◌};
 ghost use Rattle.call_send_answer.specs.Told.{tick_told, lmm_told, dmm_told};
 

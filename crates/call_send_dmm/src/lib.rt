@@ -2,6 +2,7 @@
 // Refusals in this order: 2, 6, 3. The state is only read, and the buffer is left as by send LMM. An all-zero stamp is sent like any
 // other.
 #![tactic(auto)]
+
 ghost use Rattle.std.specs.Prelude.{◌≡◌};
 ghost use Rattle.base_laws.specs.Ended.{ended};
 ghost use Rattle.state_view.specs.State.{before};

@@ -2,6 +2,7 @@
 // Refusals in this order: 2, 3. The state is only read. A refused call leaves the buffer as it was; else the message is in its first
 // octets, and every octet behind it is as it was.
 #![tactic(auto)]
+
 ghost use Rattle.std.specs.Prelude.{◌≡◌};
 ghost use Rattle.base_laws.specs.Ended.{ended};
 ghost use Rattle.state_view.specs.State.{before};

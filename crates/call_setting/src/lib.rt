@@ -5,6 +5,7 @@
 // else it has the settings as they were lent, and all the rest starts again. The contract also says that the settings have the lengths of
 // their arrays.
 #![tactic(auto)]
+
 ghost use Rattle.std.specs.Prelude.{◌≡◌};
 ghost use Rattle.base_laws.specs.Lists.{on_first};
 ghost use Rattle.state_settings.specs.Settings.{slots, lent_settings, Shaped};

@@ -2,6 +2,7 @@
 // Refusals in this order: 2; 3, on a period's last tick where the buffer is shorter than 89 octets. A refused tick has not passed: no
 // timer is lowered, and as many ticks are left to the next CCM as before. A tick that sends nothing never gives 3, whatever the buffer.
 #![tactic(auto)]
+
 ghost use Rattle.std.specs.Prelude.{◌≡◌};
 ghost use Rattle.base_laws.specs.Ended.{ended};
 ghost use Rattle.state_view.specs.State.{before, after_tick};

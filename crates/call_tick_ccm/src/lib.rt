@@ -2,6 +2,7 @@
 // Refusal 3 where the buffer is shorter than 89 octets, and then nothing changes. Whether a CCM is due, and whether the state is well
 // formed, `call_tick` tests before. The octets have their own short proof here, which an edit of the tick's order does not repeat.
 #![tactic(auto)]
+
 ghost use Rattle.std.specs.Prelude.{◌≡◌, length};
 ghost use Rattle.state_view.specs.State.{before};
 ghost use Rattle.message_parts.specs.Buffer.{written_of, buffer_of, written_told, written_numbers};

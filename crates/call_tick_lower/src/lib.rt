@@ -1,6 +1,7 @@
 // What a tick lowers: every timer one tick later, in its place.
 // It refuses nothing: whether a tick may pass is tested before. The two loops over timers have their own short proofs here.
 #![tactic(auto)]
+
 ghost use Rattle.std.specs.Prelude.{◌≡◌, map, ◌-◌};
 ghost use Rattle.base_laws.specs.Lists.{on_first};
 ghost use Rattle.state_view.specs.State.{before, after_tick};

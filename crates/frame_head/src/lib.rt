@@ -2,6 +2,7 @@
 // Each function answers for any octets. Nothing here knows of messages, settings or state. Every place behind the head is a place of the
 // PDU: `HEAD_LENGTH`, the 14 octets before it, is in this file alone, and `frame_head.head_length` in one file of the definitions.
 #![tactic(auto)]
+
 ghost use Rattle.std.specs.Prelude.{◌≡◌};
 ghost use Rattle.frame_head.specs.Head.{head_length, length_good, oam_frame, destination_of, source_of, pdu_of, place_or_start, level_of, version_of};
 ghost use Rattle.frame_head.specs.Addresses.{in_head};

@@ -3,6 +3,7 @@
 // nothing of their caller and answer for any octets. They are a step of the reader, so their answer has no numbers of its own. A caller
 // that has found the row of the opcode passes it in, so that it is looked up once.
 #![tactic(auto)]
+
 ghost use Rattle.std.specs.Prelude.{◌≡◌};
 ghost use Rattle.frame_judge.specs.Judge.{judge_by, judge_pdu};
 

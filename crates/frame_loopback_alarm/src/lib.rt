@@ -1,6 +1,7 @@
 // The fields of loopback messages and of alarms: the transaction, the period.
 // Each is 0 where the frame is bad or another message; `frame_message::message_answer` says which. No function needs anything.
 #![tactic(auto)]
+
 ghost use Rattle.std.specs.Prelude.{◌≡◌};
 ghost use Rattle.frame_loopback_alarm.specs.Fixed.{transaction_of, alarm_of};
 

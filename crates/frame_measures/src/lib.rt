@@ -2,6 +2,7 @@
 // All are 0 where the frame is bad or another message; `frame_message::message_answer` says which. No public function needs
 // anything.
 #![tactic(auto)]
+
 ghost use Rattle.std.specs.Prelude.{◌≡◌, ◌≤◌, length};
 ghost use Rattle.frame_measures.specs.Measures.{loss_in, loss_of, delay_in, delay_of};
 

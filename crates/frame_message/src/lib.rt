@@ -4,6 +4,7 @@
 // destination, D6; this answer is for readers and for lower levels. One answer serves all fields: the functions that read fields give those of their message, and zeros for any other frame.
 // Each judges the frame again, so a caller who needs several fields of one frame pays for that.
 #![tactic(auto)]
+
 ghost use Rattle.std.specs.Prelude.{◌≡◌};
 ghost use Rattle.frame_message.specs.Message.{code_good, message_in, message_of};
 ghost use Rattle.frame_message.specs.Told.{message_numbers, good_opcode};

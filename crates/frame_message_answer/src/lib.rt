@@ -1,5 +1,6 @@
 // Which message a frame may be, or why it is none; and the same in the paper's numbers.
 #![tactic(auto)]
+
 ghost use Rattle.std.specs.Prelude.{◌≡◌};
 ghost use Rattle.frame_message_answer.specs.Told.{message_told};
 

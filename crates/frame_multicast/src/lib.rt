@@ -1,6 +1,7 @@
 // The multicast address of a level, 01-80-C2-00-00-3x: one prefix, compared on receipt and written into sent CCMs.
 // No function needs anything.
 #![tactic(auto)]
+
 ghost use Rattle.std.specs.Prelude.{◌≡◌};
 ghost use Rattle.base_laws.specs.Lists.{same};
 ghost use Rattle.frame_multicast.specs.Multicast.{multicast_of, last_of};

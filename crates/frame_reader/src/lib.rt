@@ -3,6 +3,7 @@
 // is refusal 1, D1, D3, D4 or D5, whichever test fails first. An empty part alone does not say whether there is an empty value or none:
 // `frame_reader::tlv_answer` does.
 #![tactic(auto)]
+
 ghost use Rattle.std.specs.Prelude.{◌≡◌};
 ghost use Rattle.frame_reader_answer.specs.Told.{tlv_told};
 ghost use Rattle.frame_reader.specs.Reader.{value_of, place_of, answer_of};

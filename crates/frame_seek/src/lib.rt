@@ -2,6 +2,7 @@
 // A cut behind the wanted TLV is D5 too, so the walk goes to the end: from the wanted TLV on it is the same loop, for type 0, which stops
 // at nothing but the end or a cut. No function needs anything.
 #![tactic(auto)]
+
 ghost use Rattle.std.specs.Prelude.{◌≡◌};
 ghost use Rattle.frame_seek.specs.Seek.{seek_in, seek_of, Within};
 

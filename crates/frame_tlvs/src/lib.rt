@@ -3,6 +3,7 @@
 // grammar, `frame_tlvs.Tlvs`, of what is there (a type, two octets of length, a value; the End TLV; padding), and as a walk that says
 // where the code stops.
 #![tactic(auto)]
+
 ghost use Rattle.std.specs.Prelude.{◌≡◌};
 ghost use Rattle.frame_tlvs.specs.Tlvs.{walk_from, Inside, tlvs_whole};
 

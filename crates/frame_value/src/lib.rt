@@ -2,6 +2,7 @@
 // The value is the part of the frame that the reader returns; nothing is copied, and nothing is needed of the caller. A test TLV without
 // any octet has no pattern type, so it does not hold type 0.
 #![tactic(auto)]
+
 ghost use Rattle.std.specs.Prelude.{◌≡◌};
 ghost use Rattle.frame_value.specs.Told.{value_told};
 ghost use Rattle.frame_value.specs.Values.{zero_pattern, outcome_of, same_data, zero_test};

@@ -1,16 +1,16 @@
 -- The statement of specs/Line.antt, and how the call ends from what the code knows. Assumes nothing.
 use Prim.Native.Nat.{ℕ, ◌≤◌, ◌<◌}
-use mathlib.Core.Path.{◌≡◌, refl, sym, ap, ap₂, ◌∙◌}
+use mathlib.Core.Path.{◌≡◌, sym, ap, ap₂, ◌∙◌}
 use mathlib.Core.List.{List}
-use mathlib.Core.Bool.{Bool, true, false, not}
+use mathlib.Core.Bool.{Bool, true, false}
 use mathlib.Core.Logic.{⊎_elim}
 use native.Mathlib.Omega.{arith}
 use lib.Dec.{ltb}
 use lib.ListN.{length}
-use borrow.Author.Tests.{not-true, not-false, ltb-true, lt-ltb, ltb-false, le-ltb}
+use borrow.Author.Tests.{ltb-true, lt-ltb, ltb-false, le-ltb}
 use Rattle.base_laws.specs.Tests.{choose}
 use Rattle.base_laws.specs.Lists.{laid}
-use Rattle.base_laws.specs.Ended.{Ended, Wrote, wrote, told_by}
+use Rattle.base_laws.specs.Ended.{Wrote, wrote, told_by}
 use Rattle.base_laws.proofs.Ended.{told-by}
 use Rattle.base_laws.proofs.Tests.{known, fails}
 use Rattle.loss_session.specs.Session.{near, far}
@@ -73,14 +73,14 @@ module _ (s : State) (buffer : List ℕ) where
 
   -- ── the same from what the code knows ──
 
-  pub ends_2 : {b : Bool} → b ≡ well_formed s → not b ≡ true → wrote (tell_record 2 0) buffer ≡ loss_line_of s buffer
-  ends_2 {b} e h = sym (at_2 (sym e ∙ not-true b h))
+  pub ends_2 : {b : Bool} → b ≡ well_formed s → b ≡ false → wrote (tell_record 2 0) buffer ≡ loss_line_of s buffer
+  ends_2 {b} e h = sym (at_2 (sym e ∙ h))
 
-  pub ends-written : {b : Bool} {r : RecordAnswer} {n : RecordTold} {after : List ℕ} {line : LossLine} → b ≡ well_formed s → not b ≡ false
+  pub ends-written : {b : Bool} {r : RecordAnswer} {n : RecordTold} {after : List ℕ} {line : LossLine} → b ≡ well_formed s → b ≡ true
       → wrote r after ≡ write_line line buffer → line ≡ line_of s.session → n ≡ record_told r → wrote n after ≡ loss_line_of s buffer
   ends-written {b} e h written is tells =
       told-by record_told tells (written ∙ ap (λ (line : LossLine). write_line line buffer) is)
-      ∙ sym (is-written ((well_formed_is.well_formed_is s).0 (sym e ∙ not-false b h)))
+      ∙ sym (is-written ((well_formed_is.well_formed_is s).0 (sym e ∙ h)))
 
 pub loss-lines : LossLines
 loss-lines = record {

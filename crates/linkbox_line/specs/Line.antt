@@ -1,6 +1,6 @@
 -- The loss line of a box as a stored record. The paper, "Stored records" and "Refusals": kind 2 has both totals and the intervals; refusal
 -- 2, then 3; a refused call leaves the buffer as it was. Definitions and the statement only.
-use Rattle.std.specs.Prelude.{ℕ, ◌≤◌, ◌<◌, ◌≡◌, List, [], ◌∷◌, ◌++◌, not, ◌↔◌, ltb, length}
+use Rattle.std.specs.Prelude.{ℕ, ◌≤◌, ◌<◌, ◌≡◌, List, [], ◌∷◌, ◌++◌, not, ltb, length}
 use Rattle.base_laws.specs.Tests.{choose}
 use Rattle.base_laws.specs.Lists.{laid}
 use Rattle.base_laws.specs.Ended.{Wrote, wrote, told_by}

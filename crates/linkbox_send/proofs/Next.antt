@@ -1,23 +1,21 @@
 -- The statement of specs/Next.antt. Assumes nothing.
 use Prim.Native.Nat.{ℕ, suc, ◌-◌, ◌≤◌, ◌<◌}
-use mathlib.Core.Path.{◌≡◌, refl, sym, ap, subst, ◌∙◌}
-use mathlib.Core.Bool.{Bool, true, false, not, cond}
+use mathlib.Core.Path.{◌≡◌, sym, ap, ◌∙◌}
+use mathlib.Core.Bool.{Bool, true, false}
 use mathlib.Core.List.{List}
 use mathlib.Core.Logic.{⊎_elim}
 use native.Mathlib.Omega.{arith}
 use lib.ListN.{length}
-use borrow.Author.Tests.{not-true, not-false, lt-ltb}
+use borrow.Author.Tests.{lt-ltb}
 use Rattle.base_laws.proofs.Tests.{known, fails}
 use Rattle.state_view.specs.State.{State}
 use Rattle.state_view.specs.WellFormed.{WellFormed, well_formed}
 use Rattle.state_view.proofs.Rules.{well_formed_is}
 use Rattle.message_ccm.specs.Continuity.{ccm_length}
-use Rattle.base_laws.specs.Tests.{choose}
 use Rattle.call_send_answer.specs.declared.TickAnswer.{TickAnswer}
 use Rattle.call_send_answer.specs.declared.TickAnswer.TheVariants.{Quiet, Sent}
 use Rattle.call_send_answer.specs.Told.{tick_told}
-use Rattle.base_period.specs.Periods.{ticks_of}
-use Rattle.call_tick.specs.Tick.{ticks_left, next_of, ticked_of, tick_of}
+use Rattle.call_tick.specs.Tick.{next_of, tick_of}
 use Rattle.call_tick.proofs.Ticks.{ticks}
 use Rattle.linkbox_send.specs.Next.{ticks_to_next, CountsDown}
 
@@ -49,11 +47,11 @@ module _ (s : State) where
 
   -- ── the same from what the code knows ──
 
-  pub ends_0 : {b : Bool} → b ≡ well_formed s → not b ≡ true → 0 ≡ ticks_to_next s
-  ends_0 {b} e h = sym (at-bad (sym e ∙ not-true b h))
+  pub ends_0 : {b : Bool} → b ≡ well_formed s → b ≡ false → 0 ≡ ticks_to_next s
+  ends_0 {b} e h = sym (at-bad (sym e ∙ h))
 
-  pub ends_next : {b : Bool} → b ≡ well_formed s → not b ≡ false → s.next ≡ ticks_to_next s
-  ends_next {b} e h = sym (at-good (sym e ∙ not-false b h))
+  pub ends_next : {b : Bool} → b ≡ well_formed s → b ≡ true → s.next ≡ ticks_to_next s
+  ends_next {b} e h = sym (at-good (sym e ∙ h))
 
 module _ (s : State) (buffer : List ℕ) where
   sends-to : (tick_of s buffer).answer ≡ Sent ccm_length → (ticks_to_next s ≡ 1) × (89 ≤ length buffer)

@@ -1,5 +1,6 @@
 // Counts that wrap, and the loss of one direction over one interval, its sign included. Rule 7 of the paper.
 #![tactic(auto)]
+
 ghost use Rattle.std.specs.Prelude.{◌≡◌, ◌^◌, ◌≤◌, unsigned_abs};
 ghost use Rattle.std.proofs.Math.IntN.{sub_ℕ};
 ghost use Rattle.loss_growth.specs.Growth.{growth, loss_between};

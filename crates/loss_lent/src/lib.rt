@@ -4,6 +4,7 @@
 // 1,000,000,001 readings of true counts; after these a reading is refused with 5 and changes nothing. The one function that is lent a
 // struct is `linkbox_session::linkbox_measure`, whose long proof by hand would else be repeated for every edit of the rule.
 #![tactic(auto)]
+
 ghost use Rattle.loss_session.specs.Session.{readings};
 ghost use Rattle.loss_lent.specs.Lent.{reading_of};
 ghost use Rattle.std.specs.Prelude.{◌≡◌};

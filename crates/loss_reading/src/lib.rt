@@ -4,6 +4,7 @@
 // 0 and 0. No other two answers look alike, and a caller in Rattle can tell the cases apart. Beside a refusal every other value is 0. The
 // code that takes the reading is apart, in `loss_step`, so that a mistake in what is said here is tried without it.
 #![tactic(auto)]
+
 ghost use Rattle.std.specs.Prelude.{◌≡◌};
 ghost use Rattle.loss_reading.specs.Told.{loss_told};
 

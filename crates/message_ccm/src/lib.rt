@@ -2,6 +2,7 @@
 // It is made of what is given and of no state, and needs nothing of its caller: it is given our names as the settings keep them, and
 // takes our own address and the MEG ID from there. Buffer and answer are as in `message_parts`.
 #![tactic(auto)]
+
 ghost use Rattle.std.specs.Prelude.{◌≡◌, ◌≤◌, length};
 ghost use Rattle.base_laws.specs.Lists.{part, laid};
 ghost use Rattle.frame_head.specs.Head.{behind_head};

@@ -2,6 +2,7 @@
 // It is made of what is given and of no state, and needs nothing of its caller: it is given our names as the settings keep them. Buffer
 // and answer are as in `message_parts`.
 #![tactic(auto)]
+
 ghost use Rattle.std.specs.Prelude.{◌≡◌, length};
 ghost use Rattle.message_parts.specs.Buffer.{written_of, buffer_of, written_told, written_numbers};
 ghost use Rattle.message_requests.specs.Requests.{dmm_named, dmm_length};

@@ -1,5 +1,6 @@
 // The delay reply (DMR): the reply with opcode 46 and the two stamps, given or not. Needs nothing of its caller.
 #![tactic(auto)]
+
 ghost use Rattle.std.specs.Prelude.{◌≡◌};
 ghost use Rattle.message_reply.specs.Replied.{replied_of, left_of, replied_told, replied_numbers};
 ghost use Rattle.message_dmr.specs.Dmr.{dmr_octets};

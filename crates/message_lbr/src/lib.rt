@@ -1,5 +1,6 @@
 // The loopback reply (LBR): the request with its source as destination, our address as source, and opcode 2. Needs nothing of its caller.
 #![tactic(auto)]
+
 ghost use Rattle.std.specs.Prelude.{◌≡◌};
 ghost use Rattle.message_reply.specs.Replied.{replied_of, left_of, replied_told, replied_numbers};
 ghost use Rattle.message_lbr.specs.Lbr.{lbr_octets};

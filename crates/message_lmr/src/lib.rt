@@ -1,5 +1,6 @@
 // The loss reply (LMR): the reply with opcode 42, our received count in RxFCf, our sent count in TxFCb. Needs nothing of its caller.
 #![tactic(auto)]
+
 ghost use Rattle.std.specs.Prelude.{◌≡◌};
 ghost use Rattle.message_reply.specs.Replied.{replied_of, left_of, replied_told, replied_numbers};
 ghost use Rattle.message_lmr.specs.Lmr.{lmr_octets};

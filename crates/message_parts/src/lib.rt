@@ -4,4 +4,5 @@
 // numbers `message_parts.written_numbers`). Values are cut to their fields, so no caller can make one write into its neighbour. The
 // `requires` here are about lengths alone: six octets of address, and room in the buffer.
 #![tactic(auto)]
+
 pub mod parts;

@@ -6,6 +6,7 @@
 // are kept" by its form. A reply is made of what is given and of no state. Nothing is needed of the caller: that a good request never
 // gets this D5 is a theorem. The writers take our address by value, six octets, so that its type has the length.
 #![tactic(auto)]
+
 ghost use Rattle.std.specs.Prelude.{◌≡◌, ◌+◌, ◌≤◌, length};
 ghost use Rattle.base_laws.specs.Lists.{part, laid};
 ghost use Rattle.message_reply.specs.Replies.{reply_into};

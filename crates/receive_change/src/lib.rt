@@ -2,6 +2,7 @@
 // Of a loss reply, in this order: refusal 2 where the session is not well formed, which `receive_frame` has ruled out by then; 5 where
 // the reply would start interval 1,000,000,001. Neither changes anything.
 #![tactic(auto)]
+
 ghost use Rattle.std.specs.Prelude.{◌≡◌, []};
 ghost use Rattle.base_laws.specs.Ended.{ended};
 ghost use Rattle.state_view.specs.State.{before, after, after_session};

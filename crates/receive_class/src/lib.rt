@@ -3,6 +3,7 @@
 // octet of the PDU, and at nothing else. It is a step and not an answer, so it has no numbers. What is shorter than a head counts as
 // service; `receive_frame` has refused it with 1 before. The side is an enum, so a caller in Rattle has no third one.
 #![tactic(auto)]
+
 ghost use Rattle.std.specs.Prelude.{◌≡◌};
 ghost use Rattle.receive_class.specs.Class.{by_side, class_of};
 

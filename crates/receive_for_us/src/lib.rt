@@ -1,6 +1,7 @@
 // Whether a frame is for us: D6, by its addresses, its opcode and its level.
 // No frame is looked at here, and no state.
 #![tactic(auto)]
+
 ghost use Rattle.std.specs.Prelude.{◌≡◌};
 ghost use Rattle.receive_for_us.specs.Ours.{has_group_bit, good_destination, good_source, for_us};
 

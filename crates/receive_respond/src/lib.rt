@@ -2,6 +2,7 @@
 // D5 where the request ends before its fixed part does, which `receive_decide` has ruled out by then; refusal 3 where the buffer is
 // shorter than the reply. Nothing changes by either. The state is only read.
 #![tactic(auto)]
+
 ghost use Rattle.std.specs.Prelude.{◌≡◌};
 ghost use Rattle.state_settings.specs.Settings.{own_named};
 ghost use Rattle.state_view.specs.State.{before};

@@ -1,5 +1,6 @@
 // What a CCM, AIS or LCK of our level says, and the timers that it sets. Rule 5 of the paper.
 #![tactic(auto)]
+
 ghost use Rattle.std.specs.Prelude.{◌≡◌};
 ghost use Rattle.std.proofs.Math.ListN as ListN;
 ghost use Rattle.state_view.specs.State.{before, after_signal};

@@ -52,7 +52,6 @@ fn say(err: &impl Print, before: &[u8], n: u64, after: &[u8]) {
 
 // The replies that a session has taken since it was cleared: each but the first is the end of an interval.
 fn replies(session: LossSession) -> u64
-    ensures { result < 8589934592 } -> u64
     ensures { result < 8589934592 }
 {
     session.kept as u64 + session.intervals as u64

@@ -1,5 +1,6 @@
 // A state read from its 194 octets into its seven arrays.
 #![tactic(auto)]
+
 ghost use Rattle.std.specs.Prelude.{◌≡◌, ◌+◌, ◌*◌, ◌≤◌, length, drop};
 ghost use Rattle.state_settings.specs.Settings.{slots};
 ghost use Rattle.replay_state.specs.Words.{words_in};

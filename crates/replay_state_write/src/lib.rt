@@ -1,5 +1,6 @@
 // A state written as its 194 octets from its seven arrays.
 #![tactic(auto)]
+
 ghost use Rattle.std.specs.Prelude.{◌≡◌, [], ◌∷◌, ◌+◌, ◌*◌, ◌≤◌, length, get_or};
 ghost use Rattle.base_laws.specs.Lists.{laid};
 ghost use Rattle.state_settings.specs.Settings.{slots};

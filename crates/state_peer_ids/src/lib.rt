@@ -3,6 +3,7 @@
 // comparison and a jump for each pair of IDs; tests of all pairs over all slots took longer. Over sixty-four the pairs are too many: a
 // table with a bit for each ID can take their place in used_good, under the same contract.
 #![tactic(auto)]
+
 ghost use Rattle.std.specs.Prelude.{◌&&◌, ◌≡◌, ◌≤◌, length, take};
 ghost use Rattle.base_laws.specs.Lists.{every, distinct};
 ghost use Rattle.state_peer_ids.specs.Ids.{id_good, peers_good};

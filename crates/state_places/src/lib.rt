@@ -4,6 +4,7 @@
 // only: two runs of arrays that show the same state are the same, `state_places.one`. So a contract that names the state after a call names
 // the content of every array, and the proofs of one result rest on it.
 #![tactic(auto)]
+
 ghost use Rattle.std.specs.Prelude.{◌≡◌};
 ghost use Rattle.state_view.specs.State.{before, after_session};
 ghost use Rattle.state_view.specs.Changed.{with_session};

@@ -1,6 +1,7 @@
 // What a box is set to, and when that is valid.
 // The settings are in three lent arrays; any content is a value, and what breaks a rule is tested for and not assumed away.
 #![tactic(auto)]
+
 ghost use Rattle.std.specs.Prelude.{◌≡◌, get_or};
 ghost use Rattle.state_settings.specs.Settings.{lent_settings, own_named, losspeer_named};
 ghost use Rattle.state_settings.specs.Valid.{numbers_good, addresses_good, valid};

@@ -2,6 +2,7 @@
 // The bounds are tested over all slots, which for eight are a few vector instructions, and the unused part by itself. Over sixty-four the
 // bounds can be tested in the used part alone, under the same contract.
 #![tactic(auto)]
+
 ghost use Rattle.std.specs.Prelude.{◌≡◌};
 ghost use Rattle.state_view.specs.WellFormed.{slots_good};
 

@@ -2,6 +2,7 @@
 // It only reads the state. Apart from `call_conditions`: whether any condition is active is asked for each CCM, each by itself only by
 // whoever asks.
 #![tactic(auto)]
+
 ghost use Rattle.std.specs.Prelude.{◌≡◌, take};
 ghost use Rattle.state_view.specs.State.{before};
 ghost use Rattle.state_standing.specs.Standing.{standing};

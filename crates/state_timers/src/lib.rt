@@ -1,5 +1,6 @@
 // Whether the timers of the conditions, and the ticks to the next CCM, are within their bounds: a part of whether a state is well formed.
 #![tactic(auto)]
+
 ghost use Rattle.std.specs.Prelude.{◌≡◌};
 ghost use Rattle.state_view.specs.State.{before};
 ghost use Rattle.state_view.specs.WellFormed.{timers_good, next_good};

@@ -1,5 +1,6 @@
 // Whether a state is well formed, all parts together: what is not is refused by number.
 #![tactic(auto)]
+
 ghost use Rattle.std.specs.Prelude.{◌≡◌};
 ghost use Rattle.state_view.specs.State.{before};
 ghost use Rattle.state_view.specs.WellFormed.{well_formed};

@@ -5,6 +5,7 @@
 // else the record is in the first octets, and every octet behind it is as it was. The head is tested and written here for every kind, so
 // 4 before 3 is said once. No function needs anything.
 #![tactic(auto)]
+
 ghost use Rattle.std.specs.Prelude.{◌≡◌, ◌+◌, ◌≤◌, length};
 ghost use Rattle.stored_record.specs.Writing.{record_told, write_record, record_numbers};
 ghost use Rattle.base_laws.specs.Ended.{wrote};

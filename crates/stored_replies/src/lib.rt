@@ -6,6 +6,7 @@
 // (`stored_replies.worked`), that one and those after it are not taken. A halt is no refusal, since a refused call would leave
 // everything, and no call is both; to refuse the whole chunk would lose good lines. Octets behind the last whole reply are not looked at.
 #![tactic(auto)]
+
 ghost use Rattle.std.specs.Prelude.{◌≡◌, ◌+◌, ◌≤◌, length, drop};
 ghost use Rattle.base_laws.specs.Ended.{wrote};
 ghost use Rattle.base_laws.specs.Lists.{laid};

@@ -1,6 +1,7 @@
 // The body of a stored record of settings, read into the three arrays of settings.
 // Nothing is tested here.
 #![tactic(auto)]
+
 ghost use Rattle.std.specs.Prelude.{◌≡◌, ◌*◌, ◌≤◌, length};
 ghost use Rattle.state_settings.specs.Settings.{slots};
 ghost use Rattle.stored_settings_body.specs.Body.{ids_in, body_length, settings_in};

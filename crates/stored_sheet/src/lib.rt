@@ -1,5 +1,6 @@
 // The text of a sheet: specs/ says what it is; its first line is all the code there is.
 #![tactic(auto)]
+
 ghost use Rattle.std.specs.Prelude.{◌≡◌};
 ghost use Rattle.stored_sheet.specs.Sheet.{header_text};
 

@@ -19,5 +19,8 @@ pub returns : goal.returns
 returns c =
     let a = c.args in
     let s = lying a.set a.names a.ids a.timers.now a.rdi.now a.run.now a.totals.now in
-    let put = c.put_session.ensures in record { totals_value = ends-cleared s c.is_well_formed.ensures (ap not c.if-not-is_well_formed.false)
-          c.cleared.ensures put.totals_value; whole = put.whole }
+    let put = c.put_session.ensures in record {
+      totals_value = ends-cleared s c.is_well_formed.ensures (ap not c.if-not-is_well_formed.false)
+          c.cleared.ensures put.totals_value;
+      whole = put.whole;
+    }

@@ -20,8 +20,11 @@ returns-then-not-is_well_formed c =
     let wire : Wire c.args.stamp = record { seconds = search rules; nanoseconds = search rules } in
     let start = c in
     let a = start.args in
-    let s = lying a.set a.names a.ids a.timers.now a.rdi.now a.run.now a.totals.now in record { out_after = outcome dmm_told (agree s a.stamp a.out.now)
-          (taken {t = well_formed s} c.is_well_formed.ensures (ap not c.if-not-is_well_formed.true)).is; wire = wire }
+    let s = lying a.set a.names a.ids a.timers.now a.rdi.now a.run.now a.totals.now in record {
+      out_after = outcome dmm_told (agree s a.stamp a.out.now)
+          (taken {t = well_formed s} c.is_well_formed.ensures (ap not c.if-not-is_well_formed.true)).is;
+      wire = wire;
+    }
 
 pub returns-then-not-good_stamp : goal.returns-then-not-good_stamp
 unfolding send_dmm
@@ -29,9 +32,12 @@ returns-then-not-good_stamp c =
     let wire : Wire c.args.stamp = record { seconds = search rules; nanoseconds = search rules } in
     let start = c in
     let a = start.args in
-    let s = lying a.set a.names a.ids a.timers.now a.rdi.now a.run.now a.totals.now in record { out_after = outcome dmm_told (agree s a.stamp a.out.now)
+    let s = lying a.set a.names a.ids a.timers.now a.rdi.now a.run.now a.totals.now in record {
+      out_after = outcome dmm_told (agree s a.stamp a.out.now)
           (left {t = well_formed s} c.is_well_formed.ensures (ap not c.if-not-is_well_formed.false)
-          (taken {t = good a.stamp} c.good_stamp.ensures (ap not c.if-not-good_stamp.true))).is; wire = wire }
+          (taken {t = good a.stamp} c.good_stamp.ensures (ap not c.if-not-good_stamp.true))).is;
+      wire = wire;
+    }
 
 pub returns-in-NoRoom : goal.returns-in-NoRoom
 unfolding dmm_of send_dmm
@@ -42,10 +48,13 @@ returns-in-NoRoom c =
     let start = c in
     let a = start.args in
     let s = lying a.set a.names a.ids a.timers.now a.rdi.now a.run.now a.totals.now in
-    let w = c.write_dmm-written.ensures in record { out_after = outcome dmm_told (agree s a.stamp a.out.now)
+    let w = c.write_dmm-written.ensures in record {
+      out_after = outcome dmm_told (agree s a.stamp a.out.now)
           (left {t = well_formed s} test.is_well_formed.ensures (ap not test.if-not-is_well_formed.false)
           (left {t = good a.stamp} stamp-test.good_stamp.ensures (ap not stamp-test.if-not-good_stamp.false)
-          (short (dmm_of s a.stamp) a.out.now dmm_length w.into_after.1 w.value.0 w.into_after.0 c.in-NoRoom.is))).is; wire = wire }
+          (short (dmm_of s a.stamp) a.out.now dmm_length w.into_after.1 w.value.0 w.into_after.0 c.in-NoRoom.is))).is;
+      wire = wire;
+    }
 
 pub returns-in-Octets : goal.returns-in-Octets
 unfolding dmm_of send_dmm
@@ -56,7 +65,10 @@ returns-in-Octets c =
     let start = c in
     let a = start.args in
     let s = lying a.set a.names a.ids a.timers.now a.rdi.now a.run.now a.totals.now in
-    let w = c.write_dmm-written.ensures in record { out_after = outcome dmm_told (agree s a.stamp a.out.now)
+    let w = c.write_dmm-written.ensures in record {
+      out_after = outcome dmm_told (agree s a.stamp a.out.now)
           (left {t = well_formed s} test.is_well_formed.ensures (ap not test.if-not-is_well_formed.false)
           (left {t = good a.stamp} stamp-test.good_stamp.ensures (ap not stamp-test.if-not-good_stamp.false)
-          (sent (dmm_of s a.stamp) a.out.now dmm_length w.into_after.1 w.value.0 w.into_after.0 Sent c.in-Octets.is))).is; wire = wire }
+          (sent (dmm_of s a.stamp) a.out.now dmm_length w.into_after.1 w.value.0 w.into_after.0 Sent c.in-Octets.is))).is;
+      wire = wire;
+    }

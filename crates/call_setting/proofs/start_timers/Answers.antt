@@ -36,11 +36,11 @@ loop-i-preserved c =
       search rules,
       omega arith,
       elim c.if-i-used.branch [
-        then-i-used w ↦ ap length w.timers-is ∙ length-set l.timers l.i a.hold ∙ l.invariant.3
+        | then-i-used w ↦ ap length w.timers-is ∙ length-set l.timers l.i a.hold ∙ l.invariant.3
         | else-i-used w ↦ ap length w.timers-is ∙ l.invariant.3
       ],
       elim c.if-i-used.branch [
-        then-i-used w ↦ w.timers-is ∙ next-used a.hold l.i a.count a.timers.now l.timers l.invariant.4 w.if-i-used.true
+        | then-i-used w ↦ w.timers-is ∙ next-used a.hold l.i a.count a.timers.now l.timers l.invariant.4 w.if-i-used.true
         | else-i-used w ↦ w.timers-is ∙ next-unused a.hold l.i a.count a.timers.now l.timers l.invariant.4 w.if-i-used.false
       ],
     )

@@ -1,5 +1,6 @@
 -- `call_tick::tick` meets its contract: one law for each way that a tick ends.
-use mathlib.Core.Path.{◌≡◌}
+use mathlib.Core.Path.{◌≡◌, ap}
+use mathlib.Core.Bool.{not}
 use lib.ListN.{length}
 use Rattle.state_view.specs.State.{lying, run_words, loss_totals}
 use Rattle.call_tick.proofs.Ended.{good, bad, ends_2, ends-quiet, ends_3, ends-sent}
@@ -12,13 +13,13 @@ returns-then-not-is_well_formed c =
     let s = lying a.set a.names a.ids a.timers.now a.rdi.now a.run.now a.totals.now in
     let w : length a.run.now ≡ run_words = search rules in
     let z : length a.totals.now ≡ loss_totals = search rules in
-    record { out_after = ends_2 s a.out.now (bad s c.is_well_formed.ensures c.if-not-is_well_formed.true); whole = record { words = w; both = z } }
+    record { out_after = ends_2 s a.out.now (bad s c.is_well_formed.ensures (ap not c.if-not-is_well_formed.true)); whole = record { words = w; both = z } }
 
 pub returns-then-left-gt1 : goal.returns-then-left-gt1
 returns-then-left-gt1 c =
     let a = c.args in
     let s = lying a.set a.names a.ids a.timers.now a.rdi.now a.run.now a.totals.now in
-    let well = good s c.is_well_formed.ensures c.if-not-is_well_formed.false in
+    let well = good s c.is_well_formed.ensures (ap not c.if-not-is_well_formed.false) in
     record { out_after = ends-quiet s a.out.now well c.if-left-gt1.true c.pass_tick.ensures.totals_value; whole = c.pass_tick.ensures.whole }
 
 pub returns-then-out-lt-CCM_LENGTH : goal.returns-then-out-lt-CCM_LENGTH
@@ -27,14 +28,17 @@ returns-then-out-lt-CCM_LENGTH c =
     let s = lying a.set a.names a.ids a.timers.now a.rdi.now a.run.now a.totals.now in
     let w : length a.run.now ≡ run_words = search rules in
     let z : length a.totals.now ≡ loss_totals = search rules in
-    let well = good s c.is_well_formed.ensures c.if-not-is_well_formed.false in
+    let well = good s c.is_well_formed.ensures (ap not c.if-not-is_well_formed.false) in
     record { out_after = ends_3 s a.out.now well c.if-left-gt1.false c.if-out-lt-CCM_LENGTH.true; whole = record { words = w; both = z } }
 
 pub returns : goal.returns
 returns c =
     let a = c.args in
     let s = lying a.set a.names a.ids a.timers.now a.rdi.now a.run.now a.totals.now in
-    let well = good s c.is_well_formed.ensures c.if-not-is_well_formed.false in
+    let well = good s c.is_well_formed.ensures (ap not c.if-not-is_well_formed.false) in
     let passed = c.pass_tick-2.ensures in
-    let wrote = c.write_own_ccm-written.ensures in record { out_after = ends-sent s a.out.now well c.if-left-gt1.false c.if-out-lt-CCM_LENGTH.false
-          c.ticks_of.ensures passed.totals_value wrote.out_after.0 wrote.out_after.1; whole = passed.whole }
+    let wrote = c.write_own_ccm-written.ensures in record {
+      out_after = ends-sent s a.out.now well c.if-left-gt1.false c.if-out-lt-CCM_LENGTH.false
+          c.ticks_of.ensures passed.totals_value wrote.out_after.0 wrote.out_after.1;
+      whole = passed.whole;
+    }

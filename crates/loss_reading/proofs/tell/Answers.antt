@@ -21,6 +21,6 @@ returns-in-First c = sym (ap loss_told c.in-First.is)
 
 pub returns-in-Measured : goal.returns-in-Measured
 unfolding loss_told
-returns-in-Measured c =     let near : SFits w64 c.in-Measured.near = search rules in
+returns-in-Measured c = let near : SFits w64 c.in-Measured.near = search rules in
     let far : SFits w64 c.in-Measured.far = search rules in
     rw (back c.in-Measured.near near, back c.in-Measured.far far) (sym (ap loss_told c.in-Measured.is))

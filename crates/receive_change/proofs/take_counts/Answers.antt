@@ -11,7 +11,10 @@ use Rattle.receive_change.proofs.take_counts.Goals as goal
 
 pub returns : goal.returns
 returns c = let a = c.args in
-    let s = view_of a.set.now a.names.now a.ids.now a.timers.now a.rdi.now a.run.now a.totals.now in record { totals_value = ap₂ (λ (x : FrameAnswer) (t : State). ended x t []) c.answer_of.ensures c.put_session.ensures.totals_value
+    let s = view_of a.set.now a.names.now a.ids.now a.timers.now a.rdi.now a.run.now a.totals.now in record {
+      totals_value = ap₂ (λ (x : FrameAnswer) (t : State). ended x t []) c.answer_of.ensures c.put_session.ensures.totals_value
           ∙ ap (taken s) (c.take_reading-updated.ensures.0
           ∙ ap (λ (x : LossSession). after_reading x (readings a.txf a.rxf a.txb s.received))
-          c.session_of.ensures); whole = c.put_session.ensures.whole }
+          c.session_of.ensures);
+      whole = c.put_session.ensures.whole;
+    }

@@ -84,7 +84,7 @@ returns-in-UnexpectedPeriod c =
     let long : length a.run.now ≡ run_words = search rules in
     let both : length a.totals.now ≡ loss_totals = search rules in
     let w = other-set a.set.now a.names.now a.ids.now a.timers.now a.rdi.now a.run.now a.totals.now long both _ _ _ c.put_slot-in-UnexpectedPeriod.ensures c.put_slot-in-UnexpectedPeriod-2.ensures
-        c.hold_of-hold.ensures in
+    c.hold_of-hold.ensures in
     rw c.in-UnexpectedPeriod.is record { totals_value = w.0; whole = w.1 }
 
 pub returns-in-Alarm : goal.returns-in-Alarm

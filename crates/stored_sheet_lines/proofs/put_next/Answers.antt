@@ -4,17 +4,11 @@ use Rattle.stored_sheet_lines.proofs.LinePieces.{next-refused, next-line}
 use Rattle.stored_sheet_lines.proofs.put_next.Goals as goal
 
 pub returns-in-Refused : goal.returns-in-Refused
-returns-in-Refused c = let p = c in
-    let e = c in
-    let s = c in
-    let a = s.args in
-    next-refused a.at a.from.now a.into.now (sym c.read_line.ensures.0
-    ∙ e.in-Refused.is) p.copy_octets.ensures
+returns-in-Refused c =
+    let a = c.args in
+    next-refused a.at a.from.now a.into.now (sym c.read_line.ensures.0 ∙ c.in-Refused.is) c.copy_octets.ensures
 
 pub returns-in-Line : goal.returns-in-Line
-returns-in-Line c = let p = c in
-    let e = c in
-    let s = c in
-    let a = s.args in
-    next-line a.at a.from.now a.into.now e.in-Line.is.0 (sym c.read_line.ensures.0
-    ∙ e.in-Line.is) p.put_line.ensures
+returns-in-Line c =
+    let a = c.args in
+    next-line a.at a.from.now a.into.now c.in-Line.line (sym c.read_line.ensures.0 ∙ c.in-Line.is) c.put_line.ensures

@@ -21,14 +21,14 @@ loop-i-init c = let a = c.args in (at-start a.from.now a.into.now, omega arith)
 
 pub put_next-turn-requires : goal.put_next-turn-requires
 put_next-turn-requires c = let l = c.loop-i in
-    line-room l.invariant.0 l.invariant.1 c.loop-i-test.taken
+    line-room l.invariant.0 l.invariant.1 c.loop-i-test.true
 
 pub returns-then-not-turn : goal.returns-then-not-turn
 returns-then-not-turn c = let p = c in
     let l = c.loop-i in
     let a = c.args in
     let e = rw (part-rest a.from.now l.i) at p.put_next-turn.ensures in
-    turn_stops l.invariant.0 l.invariant.1 c.loop-i-test.taken e.0 e.1 e.2
+    turn_stops l.invariant.0 l.invariant.1 c.loop-i-test.true e.0 e.1 e.2
     (not-true _ c.if-not-turn.true)
 
 pub loop-i-preserved : goal.loop-i-preserved
@@ -36,7 +36,7 @@ loop-i-preserved c = let p = c in
     let l = c.loop-i in
     let a = c.args in
     let e = rw (part-rest a.from.now l.i) at p.put_next-turn.ensures in (
-      turn_goes l.invariant.0 l.invariant.1 c.loop-i-test.taken e.0 e.1 e.2
+      turn_goes l.invariant.0 l.invariant.1 c.loop-i-test.true e.0 e.1 e.2
           (not-false _ c.if-not-turn.false),
       l.invariant.1,
     )

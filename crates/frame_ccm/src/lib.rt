@@ -2,6 +2,7 @@
 // All are 0, and the MEG ID is empty, where the frame is bad or another message; `frame_message::message_answer` says which. No public
 // function needs anything.
 #![tactic(auto)]
+
 ghost use Rattle.std.specs.Prelude.{◌≡◌, ◌+◌, ◌≤◌, length};
 ghost use Rattle.frame_ccm.specs.Ccm.{ccm_in, ccm_of, meg_in, meg_of, meg_place};
 

@@ -2,6 +2,7 @@
 // A step, as `receive_decide` is: it needs nothing, and refuses nothing but 3 for a reply and 5 for a loss reply. It gives the frame's
 // own answer, which `receive_frame` returns.
 #![tactic(auto)]
+
 ghost use Rattle.std.specs.Prelude.{◌≡◌};
 ghost use Rattle.base_laws.specs.Ended.{ended};
 ghost use Rattle.state_view.specs.State.{before, after};

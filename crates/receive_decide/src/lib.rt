@@ -4,6 +4,7 @@
 // carried out after. A change is one case of the decision and not a second answer beside it: a drop, a pass or a reply could else come
 // with a change that does not belong to it. Rule 3's drop, which changes something, is a change whose answer is D2.
 #![tactic(auto)]
+
 ghost use Rattle.std.specs.Prelude.{◌≡◌, ◌≤◌, length, true};
 ghost use Rattle.frame_head.specs.Head.{behind_head, oam_frame, pdu_of, opcode_of};
 ghost use Rattle.frame_opcodes.specs.Opcodes.{rule_of};

@@ -3,6 +3,7 @@
 // is); then D1 to D8 as the frame rules have them; then 3 for a reply, or 5 for a loss reply. A frame that passes, is dropped or is taken
 // in never gives 3.
 #![tactic(auto)]
+
 ghost use Rattle.std.specs.Prelude.{◌≡◌};
 ghost use Rattle.base_laws.specs.Ended.{ended};
 ghost use Rattle.state_view.specs.State.{before, after};

@@ -3,6 +3,7 @@
 // again here, so that nothing is needed of the caller; that a frame that was judged never gets this D5 is part of the proof of
 // `receive_decide`.
 #![tactic(auto)]
+
 ghost use Rattle.std.specs.Prelude.{◌≡◌, ◌+◌, ◌≤◌, length};
 ghost use Rattle.frame_head.specs.Head.{flags_of};
 ghost use Rattle.frame_message.specs.Message.{period_code};

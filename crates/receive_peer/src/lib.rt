@@ -1,6 +1,7 @@
 // Whose a CCM of our level is: MEG ID, MEP ID, period. Rule 5 of the paper.
 // It looks at the settings and the PDU, and at no state.
 #![tactic(auto)]
+
 ghost use Rattle.std.specs.Prelude.{◌≡◌, take};
 ghost use Rattle.state_settings.specs.Settings.{lent_settings};
 ghost use Rattle.receive_peer.specs.Peers.{ccm_signal};

@@ -35,8 +35,11 @@ unfolding carried_out
 returns-in-Changes c = let a = c.args in
     let s = view_of a.set.now a.names.now a.ids.now a.timers.now a.rdi.now a.run.now a.totals.now in
     let f = a.frame.now in
-    let o = a.out.now in record { out_after = ap (beside o) c.apply.ensures.totals_value
-          ∙ sym (ap (carried_out s f a.receive a.transmit o) c.in-Changes.is); whole = c.apply.ensures.whole }
+    let o = a.out.now in record {
+      out_after = ap (beside o) c.apply.ensures.totals_value
+          ∙ sym (ap (carried_out s f a.receive a.transmit o) c.in-Changes.is);
+      whole = c.apply.ensures.whole;
+    }
 
 pub returns-in-Replies : goal.returns-in-Replies
 unfolding carried_out
@@ -45,9 +48,12 @@ returns-in-Replies c = let a = c.args in
     let f = a.frame.now in
     let o = a.out.now in
     let w : length a.run.now ≡ run_words = search rules in
-    let z : length a.totals.now ≡ 2 = search rules in record { out_after = ap₂ (λ (x : FrameAnswer) (y : List ℕ). ended x s y) c.respond.ensures.value
+    let z : length a.totals.now ≡ 2 = search rules in record {
+      out_after = ap₂ (λ (x : FrameAnswer) (y : List ℕ). ended x s y) c.respond.ensures.value
           c.respond.ensures.out_after
-          ∙ sym (ap (carried_out s f a.receive a.transmit o) c.in-Replies.is); whole = record { words = w; both = z } }
+          ∙ sym (ap (carried_out s f a.receive a.transmit o) c.in-Replies.is);
+      whole = record { words = w; both = z };
+    }
 
 pub returns-in-Delays : goal.returns-in-Delays
 unfolding carried_out
@@ -56,5 +62,8 @@ returns-in-Delays c = let a = c.args in
     let f = a.frame.now in
     let o = a.out.now in
     let w : length a.run.now ≡ run_words = search rules in
-    let z : length a.totals.now ≡ 2 = search rules in record { out_after = ap (λ (x : FrameAnswer). ended x s o) c.delay_answer.ensures
-          ∙ sym (ap (carried_out s f a.receive a.transmit o) c.in-Delays.is); whole = record { words = w; both = z } }
+    let z : length a.totals.now ≡ 2 = search rules in record {
+      out_after = ap (λ (x : FrameAnswer). ended x s o) c.delay_answer.ensures
+          ∙ sym (ap (carried_out s f a.receive a.transmit o) c.in-Delays.is);
+      whole = record { words = w; both = z };
+    }

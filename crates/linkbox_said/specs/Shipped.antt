@@ -81,14 +81,14 @@ pub record ShippedBeside : Type 1 where
   pub measure : FollowsLent Lent
   -- settings that are read, zeros beside 7
   pub read_settings : (κs : _) (a : _) (r : _) (s : _) → read_settings.Post κs a r s → (o : RecordLeft)
-      → RecordSaid (stored.read_settings a.0.now) o → (leaving (settings_says r) [] ≡ o) × ((r.refusal ≡ 0 → ⊥) → r ≡ refused_read)
+      → RecordSaid (stored.read-settings a.0.now) o → (leaving (settings_says r) [] ≡ o) × ((r.refusal ≡ 0 → ⊥) → r ≡ refused_read)
   pub write_settings : (κs : _) (a : _) (r : _) (s : _) → write_settings.Post κs a r s → (o : RecordLeft)
-      → RecordSaid (stored.write_settings (settings_of a.1.0.now a.1.1.0.now a.1.1.1.0.now) a.0.now) o
+      → RecordSaid (stored.write-settings (settings_of a.1.0.now a.1.1.0.now a.1.1.1.0.now) a.0.now) o
       → (leaving (write_says r) s.0.now ≡ o) × (r ≡ write_heard o.answer)
   pub read_line : (κs : _) (a : _) (r : _) (s : _) → read_line.Post κs a r s → (o : RecordLeft)
-      → RecordSaid (stored.read_line a.0.now) o → (leaving (line_says r) [] ≡ o) × (r ≡ line_heard o.answer)
+      → RecordSaid (stored.read-line a.0.now) o → (leaving (line_says r) [] ≡ o) × (r ≡ line_heard o.answer)
   pub write_line : (κs : _) (a : _) (r : _) (s : _) → write_line.Post κs a r s → (o : RecordLeft)
-      → RecordSaid (stored.write_line a.1.0 a.0.now) o → (leaving (write_says r) s.0.now ≡ o) × (r ≡ write_heard o.answer)
+      → RecordSaid (stored.write-line a.1.0 a.0.now) o → (leaving (write_says r) s.0.now ≡ o) × (r ≡ write_heard o.answer)
   -- a TLV, its place and length 0 where there is no value
   pub tlv : (κs : _) (a : _) (r : _) (s : _) → tlv.Post κs a r s → Octets a.0.now → (o : ReaderTells)
       → ReaderSaid a.0.now a.1.0 o
@@ -99,5 +99,5 @@ pub record ShippedBeside : Type 1 where
   pub loss_line_2 : (κs : _) (a : _) (r : _) (s : _) → loss_line.Post κs a r s → (WellFormed (state_in reads a) → ⊥)
       → (r ≡ tell_record 2 0) × ((behind s).0.now ≡ (behind a).0.now)
   pub loss_line : (κs : _) (a : _) (r : _) (s : _) → loss_line.Post κs a r s → WellFormed (state_in reads a) → (o : RecordLeft)
-      → RecordSaid (stored.write_line (line_of (state_in reads a).session) (behind a).0.now) o
+      → RecordSaid (stored.write-line (line_of (state_in reads a).session) (behind a).0.now) o
       → (leaving (write_says r) (behind s).0.now ≡ o) × (r ≡ write_heard o.answer)

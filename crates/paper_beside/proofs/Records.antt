@@ -21,7 +21,7 @@ use Rattle.stored_settings.specs.SettingsRecord.{settings_at}
 use Rattle.stored_line.specs.declared.LossLine.{LossLine}
 use Rattle.stored_line.specs.Line.{KeepsRules, keeps_rules, line_body, line_record, line_in}
 use Rattle.stored_line.proofs.LineRecords.{loss-records}
-use Rattle.paper_beside.specs.Records.{RecordCall, read_settings, write_settings, read_line, write_line, RecordTells, refused}
+use Rattle.paper_beside.specs.Records.{RecordCall, read-settings, write-settings, read-line, write-line, RecordTells, refused}
 use Rattle.paper_beside.specs.Records.{settings, line, written, RecordLeft, leaving, Handed, RecordSaid, settings_7_record}
 use Rattle.paper_beside.specs.Records.{settings_7_rule, settings_given, settings_4, settings_3, settings_written, line_7_record}
 use Rattle.paper_beside.specs.Records.{line_7_rule, line_given, line_4, line_3, line_written, our_records, FollowsRecords}
@@ -57,13 +57,13 @@ in_turn (inl p) (inr m) f g h = (_, g p m)
 in_turn (inl p) (inl q) f g h = (_, h p q)
 
 every : (c : RecordCall) → Handed c → (o : RecordLeft) × RecordSaid c o
-every (read_settings octets) h =
+every (read-settings octets) h =
     in_turn (recorded 1 81 octets) (is-settings (settings_at octets))
     (settings_7_record octets) (λ r. settings_7_rule octets) (settings_given octets)
-every (write_settings s b) h = in_turn (is-settings s) (room b 85) (settings_4 s b) (settings_3 s b) (settings_written s b)
-every (read_line octets) h =
+every (write-settings s b) h = in_turn (is-settings s) (room b 85) (settings_4 s b) (settings_3 s b) (settings_written s b)
+every (read-line octets) h =
     in_turn (recorded 2 20 octets) (is-line (line_in octets)) (line_7_record octets) (λ r. line_7_rule octets) (line_given octets)
-every (write_line l b) h = in_turn (is-line l) (room b 24) (line_4 l b) (line_3 l b) (line_written l b)
+every (write-line l b) h = in_turn (is-line l) (room b 24) (line_4 l b) (line_3 l b) (line_written l b)
 
 says : (c : RecordCall) → Handed c → RecordSaid c (our_records c)
 says c h = let e = every c h in rw (follows c e.0 h e.1) e.1
@@ -77,7 +77,7 @@ nothing = record { near = pos 0; far = pos 0; intervals = 0 }
 zeros : List ℕ
 zeros = replicate 24 0
 
-nothing_written : RecordSaid (write_line nothing zeros) (leaving (written 24) (laid 0 (line_record nothing) zeros))
+nothing_written : RecordSaid (write-line nothing zeros) (leaving (written 24) (laid 0 (line_record nothing) zeros))
 unfolding nothing zeros
 nothing_written =
     line_written (record { near = pos 0; far = pos 0; intervals = 0 }) (replicate 24 0)
@@ -93,8 +93,8 @@ is_written (written n) = 1
 refuses_all : (R : RecordCall → RecordLeft) → FollowsRecords R → ((c : RecordCall) → (n : ℕ) × ((R c).answer ≡ refused n)) → ⊥
 unfolding is_written
 refuses_all R f all =
-    let e = f.follows (write_line nothing zeros) _ tt nothing_written in
-    let w = all (write_line nothing zeros) in
+    let e = f.follows (write-line nothing zeros) _ tt nothing_written in
+    let w = all (write-line nothing zeros) in
     omega (arith, ap is_written (sym (ap (λ (o : RecordLeft). o.answer) e) ∙ w.1))
 
 -- the record's first octet is 22, and not 0
@@ -102,10 +102,10 @@ first-octet : get_or (laid 0 (line_record nothing) zeros) 0 0 ≡ 22
 unfolding nothing zeros laid head_of record_of line_body in_octets octets_lowest_first
 first-octet = refl
 
-writes_nothing : (R : RecordCall → RecordLeft) → FollowsRecords R → ((l : LossLine) (b : List ℕ) → (R (write_line l b)).buffer ≡ b) → ⊥
+writes_nothing : (R : RecordCall → RecordLeft) → FollowsRecords R → ((l : LossLine) (b : List ℕ) → (R (write-line l b)).buffer ≡ b) → ⊥
 unfolding zeros
 writes_nothing R f all =
-    let e = f.follows (write_line nothing zeros) _ tt nothing_written in
+    let e = f.follows (write-line nothing zeros) _ tt nothing_written in
     let same : laid 0 (line_record nothing) zeros ≡ zeros = sym (ap (λ (o : RecordLeft). o.buffer) e) ∙ all nothing zeros in
     let zero : get_or zeros 0 0 ≡ 0 = refl in
     omega (arith, first-octet, ap (λ (l : List ℕ). get_or l 0 0) same, zero)

@@ -16,7 +16,7 @@ use Rattle.stored_line.specs.Line.{line_in}
 use Rattle.stored_line.specs.LineCalls.{write_line}
 use Rattle.stored_line.proofs.LineRecords.{loss-records}
 use Rattle.stored_line.proofs.LineReads.{at-line}
-use Rattle.paper_beside.specs.Records.{RecordCall, read_settings, refused, RecordLeft, leaving, Handed, RecordSaid, settings_7_record}
+use Rattle.paper_beside.specs.Records.{RecordCall, read-settings, refused, RecordLeft, leaving, Handed, RecordSaid, settings_7_record}
 use Rattle.paper_beside.specs.Records.{settings_7_rule, settings_given, settings_4, settings_3, settings_written, line_7_record}
 use Rattle.paper_beside.specs.Records.{line_7_rule, line_given, line_4, line_3, line_written, write_tells, line_tells, our_records}
 
@@ -29,7 +29,7 @@ wrote e r b f g = ap₂ (λ (x : RecordAnswer) (l : List ℕ). leaving (write_te
 has_number : (r : RecordAnswer) (n : ℕ) → (record_told r).refusal ≡ n → 0 < n → (record_told r).refusal ≡ 0 → ⊥
 has_number r n e h z = omega (arith, e, z)
 
-seven : (octets : List ℕ) → (read_settings octets).refusal ≡ 7 → our_records (read_settings octets) ≡ leaving (refused 7) []
+seven : (octets : List ℕ) → (read_settings octets).refusal ≡ 7 → our_records (read-settings octets) ≡ leaving (refused 7) []
 seven octets e = rw e
 
 pub follows : (c : RecordCall) (o : RecordLeft) → Handed c → RecordSaid c o → our_records c ≡ o

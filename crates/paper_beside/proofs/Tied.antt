@@ -27,24 +27,24 @@ use Rattle.stored_record.specs.declared.RecordAnswer.{RecordAnswer}
 -- ── stored records ──
 
 pub read_settings-follows : (κs : _) (a : _) (r : _) (s : _) → read_settings.Post κs a r s → (o : RecordLeft)
-    → RecordSaid (call.read_settings a.0.now) o
+    → RecordSaid (call.read-settings a.0.now) o
     → leaving (cond (eqb r.refusal 0) (settings (settings_read r)) (refused r.refusal)) [] ≡ o
 read_settings-follows κs a r s p o q =
     ap (λ (t : SettingsRead). leaving (cond (eqb t.refusal 0) (settings (settings_read t)) (refused t.refusal)) []) p
     ∙ records_follow.ours.follows _ o tt q
 
 pub write_settings-follows : (κs : _) (a : _) (r : _) (s : _) → write_settings.Post κs a r s → (o : RecordLeft)
-    → RecordSaid (call.write_settings (settings_of a.1.0.now a.1.1.0.now a.1.1.1.0.now) a.0.now) o
+    → RecordSaid (call.write-settings (settings_of a.1.0.now a.1.1.0.now a.1.1.1.0.now) a.0.now) o
     → leaving (write_tells r) s.0.now ≡ o
 write_settings-follows κs a r s p o q =
     ap (λ (e : Wrote RecordAnswer). leaving (write_tells e.answer) e.buffer) p.0.0 ∙ records_follow.ours.follows _ o p.1 q
 
 pub read_line-follows : (κs : _) (a : _) (r : _) (s : _) → read_line.Post κs a r s → (o : RecordLeft)
-    → RecordSaid (call.read_line a.0.now) o → leaving (line_tells r) [] ≡ o
+    → RecordSaid (call.read-line a.0.now) o → leaving (line_tells r) [] ≡ o
 read_line-follows κs a r s p o q = ap (λ (t : LineAnswer). leaving (line_tells t) []) p.0 ∙ records_follow.ours.follows _ o tt q
 
 pub write_line-follows : (κs : _) (a : _) (r : _) (s : _) → write_line.Post κs a r s → (o : RecordLeft)
-    → RecordSaid (call.write_line a.1.0 a.0.now) o
+    → RecordSaid (call.write-line a.1.0 a.0.now) o
     → leaving (write_tells r) s.0.now ≡ o
 write_line-follows κs a r s p o q =
     ap (λ (e : Wrote RecordAnswer). leaving (write_tells e.answer) e.buffer) p.0 ∙ records_follow.ours.follows _ o tt q

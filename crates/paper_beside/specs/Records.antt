@@ -15,10 +15,10 @@ use Rattle.stored_line.specs.Line.{KeepsRules, line_record, line_in}
 use Rattle.stored_line.specs.LineCalls.{read_line, write_line}
 
 pub data RecordCall : Type 0 where
-  read_settings : List ℕ → RecordCall
-  write_settings : Settings → List ℕ → RecordCall
-  read_line : List ℕ → RecordCall
-  write_line : LossLine → List ℕ → RecordCall
+  read-settings : List ℕ → RecordCall
+  write-settings : Settings → List ℕ → RecordCall
+  read-line : List ℕ → RecordCall
+  write-line : LossLine → List ℕ → RecordCall
 
 pub data RecordTells : Type 0 where
   refused : ℕ → RecordTells
@@ -36,27 +36,27 @@ leaving answer buffer = record { answer = answer; buffer = buffer }
 
 -- settings have the lengths that their arrays have
 abbrev pub Handed : RecordCall → Type 0
-Handed (read_settings octets) = Unit {0}
-Handed (write_settings s b) = Shaped slots s
-Handed (read_line octets) = Unit {0}
-Handed (write_line l b) = Unit {0}
+Handed (read-settings octets) = Unit {0}
+Handed (write-settings s b) = Shaped slots s
+Handed (read-line octets) = Unit {0}
+Handed (write-line l b) = Unit {0}
 
 pub data RecordSaid : RecordCall → RecordLeft → Type 0 where
   -- settings are kind 1, with 81 octets of body: wrong or cut short, or a rule broken, else they are given
-  settings_7_record : (octets : List ℕ) → NoRecord 1 81 octets → RecordSaid (read_settings octets) (leaving (refused 7) [])
-  settings_7_rule : (octets : List ℕ) → (Valid (settings_at octets) → ⊥) → RecordSaid (read_settings octets) (leaving (refused 7) [])
-  settings_given : (octets : List ℕ) → IsRecord 1 81 octets → Valid (settings_at octets) → RecordSaid (read_settings octets) (leaving (settings (settings_at octets)) [])
+  settings_7_record : (octets : List ℕ) → NoRecord 1 81 octets → RecordSaid (read-settings octets) (leaving (refused 7) [])
+  settings_7_rule : (octets : List ℕ) → (Valid (settings_at octets) → ⊥) → RecordSaid (read-settings octets) (leaving (refused 7) [])
+  settings_given : (octets : List ℕ) → IsRecord 1 81 octets → Valid (settings_at octets) → RecordSaid (read-settings octets) (leaving (settings (settings_at octets)) [])
   -- on writing 4 comes before 3; what is behind the 85 octets stays
-  settings_4 : (t : Settings) (b : List ℕ) → (Valid t → ⊥) → RecordSaid (write_settings t b) (leaving (refused 4) b)
-  settings_3 : (t : Settings) (b : List ℕ) → Valid t → length b < 85 → RecordSaid (write_settings t b) (leaving (refused 3) b)
-  settings_written : (t : Settings) (b : List ℕ) → Valid t → 85 ≤ length b → RecordSaid (write_settings t b) (leaving (written 85) (laid 0 (settings_record t) b))
+  settings_4 : (t : Settings) (b : List ℕ) → (Valid t → ⊥) → RecordSaid (write-settings t b) (leaving (refused 4) b)
+  settings_3 : (t : Settings) (b : List ℕ) → Valid t → length b < 85 → RecordSaid (write-settings t b) (leaving (refused 3) b)
+  settings_written : (t : Settings) (b : List ℕ) → Valid t → 85 ≤ length b → RecordSaid (write-settings t b) (leaving (written 85) (laid 0 (settings_record t) b))
   -- a loss line is kind 2, with 20 octets of body
-  line_7_record : (octets : List ℕ) → NoRecord 2 20 octets → RecordSaid (read_line octets) (leaving (refused 7) [])
-  line_7_rule : (octets : List ℕ) → (KeepsRules (line_in octets) → ⊥) → RecordSaid (read_line octets) (leaving (refused 7) [])
-  line_given : (octets : List ℕ) → IsRecord 2 20 octets → KeepsRules (line_in octets) → RecordSaid (read_line octets) (leaving (line (line_in octets)) [])
-  line_4 : (l : LossLine) (b : List ℕ) → (KeepsRules l → ⊥) → RecordSaid (write_line l b) (leaving (refused 4) b)
-  line_3 : (l : LossLine) (b : List ℕ) → KeepsRules l → length b < 24 → RecordSaid (write_line l b) (leaving (refused 3) b)
-  line_written : (l : LossLine) (b : List ℕ) → KeepsRules l → 24 ≤ length b → RecordSaid (write_line l b) (leaving (written 24) (laid 0 (line_record l) b))
+  line_7_record : (octets : List ℕ) → NoRecord 2 20 octets → RecordSaid (read-line octets) (leaving (refused 7) [])
+  line_7_rule : (octets : List ℕ) → (KeepsRules (line_in octets) → ⊥) → RecordSaid (read-line octets) (leaving (refused 7) [])
+  line_given : (octets : List ℕ) → IsRecord 2 20 octets → KeepsRules (line_in octets) → RecordSaid (read-line octets) (leaving (line (line_in octets)) [])
+  line_4 : (l : LossLine) (b : List ℕ) → (KeepsRules l → ⊥) → RecordSaid (write-line l b) (leaving (refused 4) b)
+  line_3 : (l : LossLine) (b : List ℕ) → KeepsRules l → length b < 24 → RecordSaid (write-line l b) (leaving (refused 3) b)
+  line_written : (l : LossLine) (b : List ℕ) → KeepsRules l → 24 ≤ length b → RecordSaid (write-line l b) (leaving (written 24) (laid 0 (line_record l) b))
 
 -- ── ours, made of the definitions that the contracts name ──
 
@@ -70,10 +70,10 @@ line_tells read.Refused = refused 7
 line_tells (read.Line l) = line l
 
 abbrev pub our_records : RecordCall → RecordLeft
-our_records (read_settings octets) = leaving (cond (eqb (read_settings octets).refusal 0) (settings (settings_read (read_settings octets))) (refused (read_settings octets).refusal)) []
-our_records (write_settings s b) = leaving (write_tells (write_settings s b).answer) (write_settings s b).buffer
-our_records (read_line octets) = leaving (line_tells (read_line octets)) []
-our_records (write_line l b) = leaving (write_tells (write_line l b).answer) (write_line l b).buffer
+our_records (read-settings octets) = leaving (cond (eqb (read_settings octets).refusal 0) (settings (settings_read (read_settings octets))) (refused (read_settings octets).refusal)) []
+our_records (write-settings s b) = leaving (write_tells (write_settings s b).answer) (write_settings s b).buffer
+our_records (read-line octets) = leaving (line_tells (read_line octets)) []
+our_records (write-line l b) = leaving (write_tells (write_line l b).answer) (write_line l b).buffer
 
 -- ── what follows the paper ──
 
@@ -91,4 +91,4 @@ pub record RecordsFollow : Type 0 where
   pub same : (R Q : RecordCall → RecordLeft) → FollowsRecords R → FollowsRecords Q → (c : RecordCall) → Handed c → R c ≡ Q c
   -- one that refuses everything, and one that writes nothing, do not follow it
   pub refuses_all : (R : RecordCall → RecordLeft) → FollowsRecords R → ((c : RecordCall) → (n : ℕ) × ((R c).answer ≡ refused n)) → ⊥
-  pub writes_nothing : (R : RecordCall → RecordLeft) → FollowsRecords R → ((l : LossLine) (b : List ℕ) → (R (write_line l b)).buffer ≡ b) → ⊥
+  pub writes_nothing : (R : RecordCall → RecordLeft) → FollowsRecords R → ((l : LossLine) (b : List ℕ) → (R (write-line l b)).buffer ≡ b) → ⊥

@@ -20,7 +20,7 @@ events-to s y cs es v w t none = none
 events-to s y cs es v w t (next c e ds fs i rest) = next c e ds fs (is-to s y c e v w t i) (events-to s y ds fs v w t rest)
 
 is_clear : Call → Bool
-is_clear (call.new-setting t) = false
+is_clear (call.new_setting t) = false
 is_clear (call.frame a) = false
 is_clear (call.tick b) = false
 is_clear call.clear = true

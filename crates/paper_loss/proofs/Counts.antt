@@ -57,7 +57,7 @@ module _ (B : Box) (F : Follows B) (s : State) where
 -- a state that is not well formed is refused with 2, and left
 module _ (B : Box) (F : Follows B) (s : State) (bad : WellFormed s → ⊥) where
   second : (c : Call) → NoSetting c → Refusal s c 2
-  second (call.new-setting t) k = absurd (k t refl)
+  second (call.new_setting t) k = absurd (k t refl)
   second (call.frame a) k = table.frame_2 a bad
   second (call.tick b) k = table.tick_2 b bad
   second call.clear k = table.clear_2 bad

@@ -80,3 +80,4 @@ lossy-reply (said.by_rules_5_to_8 (handling.rule_8_two_way a g p h)) e = absurd 
 lossy-reply (said.by_rules_5_to_8 (handling.rule_8_all_ways a g p x y z)) e = absurd (false≢true e)
 lossy-reply (said.by_rules_5_to_8 (handling.rule_8_d8_two_way a g p h)) e = absurd (false≢true e)
 lossy-reply (said.by_rules_5_to_8 (handling.rule_8_d8_all_ways a g p h)) e = absurd (false≢true e)
+lossy-reply {s = s} {a = a} {o = o} (said.by_call x4) e = elim x4 [ ]

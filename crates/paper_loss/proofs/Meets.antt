@@ -23,7 +23,7 @@ use Rattle.state_settings.specs.Settings.{Settings}
 use Rattle.call_setting.specs.Start.{start_of}
 use Rattle.call_setting.proofs.Starts.{starts}
 use Rattle.paper_said.proofs.Started.{fresh_own}
-use Rattle.paper_said.specs.Calls.{Arrival, Call, new-setting, frame, clear, leaves, OnWire, NoSetting, Box}
+use Rattle.paper_said.specs.Calls.{Arrival, Call, new_setting, frame, clear, leaves, OnWire, NoSetting, Box}
 use Rattle.paper_said.specs.Calls as told
 use Rattle.paper_said.specs.Said as paper
 use Rattle.paper_said.specs.Called as calling
@@ -110,10 +110,10 @@ module _ (B : Box) (F : Follows B) where
       let e = F.follows s clear _ tt (paper.by_call (calling.clears w)) in
       record { settings = rw e refl; well = rw e (session-put s cleared_session cleared_well w); cleared = rw e refl }
 
-  set : (s : State) (t : Settings) → Settable t → Begins t (B s (new-setting t)).state × ((B s (new-setting t)).state.received ≡ 0)
-      × ((B s (new-setting t)).state.sent ≡ 0)
+  set : (s : State) (t : Settings) → Settable t → Begins t (B s (new_setting t)).state × ((B s (new_setting t)).state.received ≡ 0)
+      × ((B s (new_setting t)).state.sent ≡ 0)
   set s t g =
-      let e = F.follows s (new-setting t) _ g.handed (paper.by_call (calling.setting_starts t (start_of t) g.valid (fresh_own t))) in
+      let e = F.follows s (new_setting t) _ g.handed (paper.by_call (calling.setting_starts t (start_of t) g.valid (fresh_own t))) in
       (record { settings = rw e refl; well = rw e (starts.well t g.valid); cleared = rw e refl }, rw e refl, rw e refl)
 
   kept : (s : State) (cs : List Call) → WellFormed s → Each OnWire cs → Each NoSetting cs → WellFormed (run B s cs)

@@ -51,6 +51,7 @@ quiet n (said.by_rules_5_to_8 (handling.rule_8_two_way a g p h)) = (refl, refl, 
 quiet n (said.by_rules_5_to_8 (handling.rule_8_all_ways a g p x y z)) = (refl, refl, refl, refl)
 quiet n (said.by_rules_5_to_8 (handling.rule_8_d8_two_way a g p h)) = (refl, refl, refl, refl)
 quiet n (said.by_rules_5_to_8 (handling.rule_8_d8_all_ways a g p h)) = (refl, refl, refl, refl)
+quiet {y = y} {a = a} {o = o} n (said.by_call x3) = elim x3 [ ]
 
 pub quiet-tick : {y : State} {b : List ℕ} {o : Outcome} → Said y (call.tick b) o → Same y o.state
 quiet-tick (said.by_call (calling.tick_2 b v)) = (refl, refl, refl, refl)

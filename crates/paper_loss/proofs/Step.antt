@@ -109,7 +109,7 @@ module _ (y : State) (a : Arrival) (l : LossReply y a) where
 -- the step of a call that is none of the three, by the sentence that the paper says of it
 step_other : (y : State) (c : Call) (o : Outcome) → NoSetting c → ((a : Arrival) → c ≡ call.frame a → Neither y a) → Said y c o
     → Step y c event.other o
-step_other y (call.new-setting t) o k n p = absurd (k t refl)
+step_other y (call.new_setting t) o k n p = absurd (k t refl)
 step_other y (call.frame a) o k n p =
     let q = quiet (n a refl) p in record { settings = q.0; received = q.1; sent = q.2; session = λ z. q.3; answer = tt }
 step_other y (call.tick b) o k n p =

@@ -18,7 +18,7 @@ use Rattle.paper_loss.proofs.EventOf.{of-frame}
 
 -- which calls are frames
 is_frame : Call → Bool
-is_frame (call.new-setting t) = false
+is_frame (call.new_setting t) = false
 is_frame (call.frame b) = true
 is_frame (call.tick b) = false
 is_frame call.clear = false
@@ -32,7 +32,7 @@ no-frame s c e = is_other c (λ a q. absurd (true≢false (sym (ap is_frame q) �
 
 of-call : (s : State) (c : Call) → OnWire c → NoSetting c → (e : Event) × Is s c e
 unfolding is_frame
-of-call s (call.new-setting t) u k = absurd (k t refl)
+of-call s (call.new_setting t) u k = absurd (k t refl)
 of-call s (call.frame a) u k = of-frame s a u
 of-call s (call.tick b) u k = (other, no-frame s (call.tick b) refl)
 of-call s call.clear u k = (other, no-frame s call.clear refl)

@@ -28,7 +28,7 @@ use Rattle.loss_account.specs.Account.{Truth, Grows, Sound, total}
 use Rattle.loss_account.specs.Demand3.{Shows}
 use Rattle.state_view.specs.State.{State}
 use Rattle.state_view.specs.WellFormed.{WellFormed}
-use Rattle.paper_said.specs.Calls.{Arrival, Call, new-setting, frame, clear, Answer, leaves, OnWire, NoSetting, Box}
+use Rattle.paper_said.specs.Calls.{Arrival, Call, new_setting, frame, clear, Answer, leaves, OnWire, NoSetting, Box}
 use Rattle.paper_said.specs.Calls as told
 use Rattle.paper_said.specs.Taken.{LossReply}
 use Rattle.paper_said.specs.Started.{Settable}
@@ -63,7 +63,7 @@ pub record Demand3 (B : Box) : Type 0 where
   -- counts 0
   pub after_clear : (s : State) → WellFormed s → Begins s.settings (B s clear).state
   pub after-setting : (s : State) (t : Settings) → Settable t
-      → Begins t (B s (new-setting t)).state × ((B s (new-setting t)).state.received ≡ 0) × ((B s (new-setting t)).state.sent ≡ 0)
+      → Begins t (B s (new_setting t)).state × ((B s (new_setting t)).state.received ≡ 0) × ((B s (new_setting t)).state.sent ≡ 0)
   -- and every call but a new setting leaves a well-formed state well formed, and its settings as they were. (A setting that is refused
   -- leaves the whole state, by demand 1, so a run goes on after it; the runs below have none in them)
   pub keeps : (s : State) (cs : List Call) → WellFormed s → Each OnWire cs → Each NoSetting cs

@@ -12,7 +12,7 @@ use Rattle.stored_settings.proofs.SettingsRecords.{settings-records}
 use Rattle.stored_line.proofs.LineRecords.{loss-records}
 use Rattle.state_view.specs.State.{State}
 use Rattle.state_view.specs.WellFormed.{WellFormed}
-use Rattle.paper_said.specs.Calls.{Call, new-setting, frame, tick, clear, send_LMM, send_DMM, conditions, Answer, refused, HandedOut}
+use Rattle.paper_said.specs.Calls.{Call, new_setting, frame, tick, clear, send_LMM, send_DMM, conditions, Answer, refused, HandedOut}
 use Rattle.paper_said.specs.Calls.{nothing, Outcome, leaves, OnWire, NoSetting, Box}
 use Rattle.paper_said.specs.Started.{Settable}
 use Rattle.paper_said.specs.Ours.{Follows}
@@ -47,7 +47,7 @@ two (conditions_2 h) e w = h w
 
 -- and to every call that is given one
 gets_2 : (s : State) (c : Call) → NoSetting c → (WellFormed s → ⊥) → Refusal s c 2
-gets_2 s (new-setting t) none h = absurd (none t refl)
+gets_2 s (new_setting t) none h = absurd (none t refl)
 gets_2 s (frame a) none h = frame_2 a h
 gets_2 s (tick b) none h = tick_2 b h
 gets_2 s clear none h = clear_2 h
@@ -82,7 +82,7 @@ module _ (B : Box) (f : Follows B) where
   run-well (c ∷ cs) s w wire = run-well cs (B s c).state (kept.stays s c wire.0 w) wire.1
 
   stays : (s : State) (t : Settings) (cs : List Call) → Settable t → Each OnWire cs → WellFormed (since B s t cs)
-  stays s t cs g wire = run-well cs (B s (new-setting t)).state ((meets.meets B f).after-setting s t g).0.well wire
+  stays s t cs g wire = run-well cs (B s (new_setting t)).state ((meets.meets B f).after-setting s t g).0.well wire
 
   pub demand_1 : Demand1 B
   demand_1 = record {

@@ -12,7 +12,7 @@ use Rattle.state_settings.specs.Valid.{valid}
 use Rattle.state_settings.proofs.Rules.{valid_is}
 use Rattle.state_view.specs.State.{State}
 use Rattle.state_view.specs.WellFormed.{WellFormed}
-use Rattle.paper_said.specs.Calls.{Call, new-setting, frame, tick, clear, send_LMM, send_DMM, conditions, Outcome, OnWire, NoSetting, Box}
+use Rattle.paper_said.specs.Calls.{Call, new_setting, frame, tick, clear, send_LMM, send_DMM, conditions, Outcome, OnWire, NoSetting, Box}
 use Rattle.paper_said.specs.Started.{Settable}
 use Rattle.paper_said.specs.Ours.{Follows}
 use Rattle.paper_said.proofs.Other.{is_setting, other}
@@ -39,7 +39,7 @@ module _ (B : Box) (f : Follows B) where
       }
 
   -- a setting that is taken brings its own, with both counts 0; one that is refused leaves all
-  setting_in_memory : (s : State) (t : Settings) → OnWire (new-setting t) → InMemory s → InMemory (B s (new-setting t)).state
+  setting_in_memory : (s : State) (t : Settings) → OnWire (new_setting t) → InMemory s → InMemory (B s (new_setting t)).state
   setting_in_memory s t wire m =
       ⊎_elim
       (λ (v : valid t ≡ true).
@@ -52,7 +52,7 @@ module _ (B : Box) (f : Follows B) where
 
   call_in_memory : (s : State) (c : Call) → WellFormed s → OnWire c → InMemory s → InMemory (B s c).state
   unfolding is_setting
-  call_in_memory s (new-setting t) w wire m = setting_in_memory s t wire m
+  call_in_memory s (new_setting t) w wire m = setting_in_memory s t wire m
   call_in_memory s (frame a) w wire m = other_in_memory s (frame a) w wire (other (frame a) refl) m
   call_in_memory s (tick b) w wire m = other_in_memory s (tick b) w wire (other (tick b) refl) m
   call_in_memory s clear w wire m = other_in_memory s clear w wire (other clear refl) m
@@ -69,5 +69,5 @@ module _ (B : Box) (f : Follows B) where
   pub in_memory : (s : State) (t : Settings) (cs : List Call) → Settable t → Each OnWire cs → InMemory (since B s t cs)
   in_memory s t cs g wire =
       let b = (meets.meets B f).after-setting s t g in
-      run_in_memory cs (B s (new-setting t)).state b.0.well wire
+      run_in_memory cs (B s (new_setting t)).state b.0.well wire
       (record { settings = rw b.0.settings g.handed.shape; sent = rw b.2 (omega arith); received = rw b.1 (omega arith) })

@@ -10,7 +10,7 @@ use Rattle.stored_settings.specs.SettingsRecord.{SettingsRecords}
 use Rattle.stored_line.specs.LineCalls.{LossRecords}
 use Rattle.state_view.specs.State.{State}
 use Rattle.state_view.specs.WellFormed.{WellFormed}
-use Rattle.paper_said.specs.Calls.{Call, new-setting, refused, nothing, leaves, hands_out, OnWire, NoSetting, Box}
+use Rattle.paper_said.specs.Calls.{Call, new_setting, refused, nothing, leaves, hands_out, OnWire, NoSetting, Box}
 use Rattle.paper_said.specs.Started.{Settable, AllZero}
 use Rattle.paper_promised.specs.Refusals.{Refusal, handed}
 use Rattle.paper_loss.specs.Runs.{Each}
@@ -25,8 +25,8 @@ pub record Demand1 (B : Box) : Type 0 where
   pub same : (s : State) (c : Call) (n : ℕ) → OnWire c → (B s c).answer ≡ refused n → ((B s c).state ≡ s) × ((B s c).buffer ≡ handed c)
   -- only a new setting returns a state, and a refused one zeros
   pub hands_nothing : (s : State) (c : Call) → OnWire c → NoSetting c → (B s c).out ≡ nothing
-  pub zeros : (s : State) (t : Settings) → OnWire (new-setting t) → (Valid t → ⊥)
-      → (zero : State) × AllZero zero × (B s (new-setting t) ≡ hands_out (refused 4) s zero)
+  pub zeros : (s : State) (t : Settings) → OnWire (new_setting t) → (Valid t → ⊥)
+      → (zero : State) × AllZero zero × (B s (new_setting t) ≡ hands_out (refused 4) s zero)
   -- along every run since a setting that was taken the state stays well formed, so the box never gives itself a 2: a setting that is
   -- refused in mid run leaves a running box
   pub stays : (s : State) (t : Settings) (cs : List Call) → Settable t → Each OnWire cs → WellFormed (since B s t cs)

@@ -114,3 +114,4 @@ uncounted (said.by_rules_5_to_8 (handling.rule_8_two_way a g p h)) E = (refl, re
 uncounted (said.by_rules_5_to_8 (handling.rule_8_all_ways a g p x y z)) E = (refl, refl)
 uncounted (said.by_rules_5_to_8 (handling.rule_8_d8_two_way a g p h)) E = (refl, refl)
 uncounted (said.by_rules_5_to_8 (handling.rule_8_d8_all_ways a g p h)) E = (refl, refl)
+uncounted {s = s} {a = a} {o = o} (said.by_call x4) E = elim x4 [ ]

@@ -94,3 +94,4 @@ never_d8 {s} U W (said.by_rules_5_to_8 (handling.rule_8_d8_two_way a g p h)) E =
     too_large s a U W g.reply (Delays.delay-two_d8 a g.good p h)
 never_d8 {s} U W (said.by_rules_5_to_8 (handling.rule_8_d8_all_ways a g p h)) E =
     too_large s a U W g.reply (Delays.delay-all_d8 a g.good p h)
+never_d8 {s = s} {a = a} {o = o} U W (said.by_call x4) E = elim x4 [ ]

@@ -20,7 +20,7 @@ use Rattle.paper_promised.proofs.Stays.{same, stays}
 -- ── what is handed out ──
 
 nothing-out : (s : State) (c : Call) → NoSetting c → (ours s c).out ≡ nothing
-nothing-out s (call.new-setting t) k = absurd (k t refl)
+nothing-out s (call.new_setting t) k = absurd (k t refl)
 nothing-out s (call.frame a) k = refl
 nothing-out s (call.tick b) k = refl
 nothing-out s call.clear k = refl
@@ -41,7 +41,7 @@ promised B F = record {
   hands_nothing = λ s c u k. let x = every_call s c u in
       ap (λ (o : Outcome). o.out) (F.follows s c x.0 u x.1 ∙ sym (ours-follows.box.follows s c x.0 u x.1))
       ∙ nothing-out s c k;
-  zeros = λ s t u h. (zero_state, zero_own, F.follows s (call.new-setting t) _ u (said.by_call (calling.setting_4 t zero_state h zero_own)));
+  zeros = λ s t u h. (zero_state, zero_own, F.follows s (call.new_setting t) _ u (said.by_call (calling.setting_4 t zero_state h zero_own)));
   drops = λ s c n u e h. let x = every_call s c u in let y = F.follows s c x.0 u x.1 in
       rw y (drops x.1 n (sym (ap (λ (o : Outcome). o.answer) y) ∙ e) h);
   remembers = λ s c u r. F.follows s c _ u (remembered r);

@@ -125,14 +125,15 @@ stays-frame {s} O W (said.by_rules_5_to_8 (handling.rule_8_two_way a g p h)) = W
 stays-frame {s} O W (said.by_rules_5_to_8 (handling.rule_8_all_ways a g p x y z)) = W
 stays-frame {s} O W (said.by_rules_5_to_8 (handling.rule_8_d8_two_way a g p h)) = W
 stays-frame {s} O W (said.by_rules_5_to_8 (handling.rule_8_d8_all_ways a g p h)) = W
+stays-frame {s = s} {a = a} {o = o} O W (said.by_call x3) = elim x3 [ ]
 
-stays-setting : {s : State} {t : Settings} {o : Outcome} → WellFormed s → Said s (call.new-setting t) o → WellFormed o.state
+stays-setting : {s : State} {t : Settings} {o : Outcome} → WellFormed s → Said s (call.new_setting t) o → WellFormed o.state
 stays-setting w (said.by_call (calling.setting_4 t z v h)) = w
 stays-setting w (said.by_call (calling.setting_starts t f v h)) = rw (← fresh_is t f h) (starts.well t v)
 
 -- what a call leaves, our box's as any other's
 pub stays : (s : State) (c : Call) (o : Outcome) → OnWire c → WellFormed s → Said s c o → WellFormed o.state
-stays s (call.new-setting t) o u w p = stays-setting w p
+stays s (call.new_setting t) o u w p = stays-setting w p
 stays s (call.frame a) o u w p = stays-frame u.octets w p
 stays s (call.tick b) o u w p =
     rw (← ap (λ (x : Outcome). x.state) (ours-follows.box.follows s (call.tick b) o u p)) (ticks.stays s b w)

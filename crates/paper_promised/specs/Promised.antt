@@ -9,7 +9,7 @@ use Rattle.state_view.specs.Changed as word
 use Rattle.state_view.specs.WellFormed.{WellFormed}
 use Rattle.frame_head.specs.Head.{ether_type_of}
 use Rattle.frame_ccm.specs.Ccm.{ccm_in, meg_in}
-use Rattle.paper_said.specs.Calls.{Arrival, Call, new-setting, frame, Answer, refused, dropped, taken, nothing, Outcome, leaves, hands_out, OnWire, NoSetting, Box}
+use Rattle.paper_said.specs.Calls.{Arrival, Call, new_setting, frame, Answer, refused, dropped, taken, nothing, Outcome, leaves, hands_out, OnWire, NoSetting, Box}
 use Rattle.paper_said.specs.Cases.{pdu, hold}
 use Rattle.paper_said.specs.Taken.{OwnCcm}
 use Rattle.paper_said.specs.Started.{AllZero}
@@ -26,8 +26,8 @@ pub record Promised (B : Box) : Type 0 where
   pub left : (s : State) (c : Call) (n : ℕ) → OnWire c → (B s c).answer ≡ refused n → ((B s c).state ≡ s) × ((B s c).buffer ≡ handed c)
   -- only a new setting returns a state; a refused one returns the all-zero state
   pub hands_nothing : (s : State) (c : Call) → OnWire c → NoSetting c → (B s c).out ≡ nothing
-  pub zeros : (s : State) (t : Settings) → OnWire (new-setting t) → (Valid t → ⊥)
-      → (zero : State) × AllZero zero × (B s (new-setting t) ≡ hands_out (refused 4) s zero)
+  pub zeros : (s : State) (t : Settings) → OnWire (new_setting t) → (Valid t → ⊥)
+      → (zero : State) × AllZero zero × (B s (new_setting t) ≡ hands_out (refused 4) s zero)
   -- a drop writes nothing, and changes nothing but the timer of rule 3, and that only there
   pub drops : (s : State) (c : Call) (n : ℕ) → OnWire c → (B s c).answer ≡ dropped n → (Remembered s c → ⊥) → ((B s c).state ≡ s) × ((B s c).buffer ≡ handed c)
   pub remembers : (s : State) (c : Call) → OnWire c → Remembered s c → B s c ≡ leaves (dropped 2) (put word.unexpected_level (hold s) s) (handed c)

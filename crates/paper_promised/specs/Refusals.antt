@@ -5,7 +5,7 @@ use Rattle.state_settings.specs.Valid.{Valid}
 use Rattle.base_stamp.specs.declared.Stamp.{Stamp}
 use Rattle.state_view.specs.State.{State}
 use Rattle.state_view.specs.WellFormed.{WellFormed}
-use Rattle.paper_said.specs.Calls.{active, Arrival, Call, new-setting, frame, tick, clear, send_LMM, send_DMM, conditions}
+use Rattle.paper_said.specs.Calls.{active, Arrival, Call, new_setting, frame, tick, clear, send_LMM, send_DMM, conditions}
 use Rattle.paper_said.specs.Cases.{level, LengthGood, StampGood, Oam, OwnLevel}
 use Rattle.paper_said.specs.Drops.{Sound, GoodCcm}
 use Rattle.paper_said.specs.Taken.{LossReply}
@@ -33,7 +33,7 @@ pub data Refusal (s : State) : Call → ℕ → Type 0 where
   dmm_6 : (x : Stamp) (b : List ℕ) → WellFormed s → (StampGood x → ⊥) → Refusal s (send_DMM x b) 6
   dmm_3 : (x : Stamp) (b : List ℕ) → WellFormed s → StampGood x → length b < 51 → Refusal s (send_DMM x b) 3
   -- a new setting
-  setting_4 : (t : Settings) → (Valid t → ⊥) → Refusal s (new-setting t) 4
+  setting_4 : (t : Settings) → (Valid t → ⊥) → Refusal s (new_setting t) 4
   -- conditions
   conditions_2 : (WellFormed s → ⊥) → Refusal s conditions 2
 
@@ -44,7 +44,7 @@ pub data Remembered (s : State) : Call → Type 0 where
 
 -- the buffer that a call is passed
 abbrev pub handed : Call → List ℕ
-handed (new-setting t) = []
+handed (new_setting t) = []
 handed (frame a) = a.buffer
 handed (tick b) = b
 handed clear = []

@@ -66,6 +66,7 @@ module _ {t : Settings} {s : State} (v : Valid t) (H : Holds t s) where
   frame-line (said.by_rules_5_to_8 (handling.rule_8_all_ways a g p x y z)) = idle
   frame-line (said.by_rules_5_to_8 (handling.rule_8_d8_two_way a g p h)) = idle
   frame-line (said.by_rules_5_to_8 (handling.rule_8_d8_all_ways a g p h)) = idle
+  frame-line {a = a} {o = o} (said.by_call x3) = elim x3 [ ]
 
   pub clear-line : {o : Outcome} → Said s call.clear o → Change t s call.clear o.state
   clear-line (said.by_call (calling.clear_2 n)) = idle

@@ -46,10 +46,10 @@ no-refusal : {s : State} {b : List ℕ} {n : ℕ} → WellFormed s → (s.next �
 no-refusal w room (table.tick_2 b m) = m w
 no-refusal w room (table.tick_3 b m e h) = omega (arith, room e, h)
 
-begins : {B : Box} → Follows B → {t : Settings} → Settable t → (s : State) → (B s (call.new-setting t)).state ≡ start_of t
+begins : {B : Box} → Follows B → {t : Settings} → Settable t → (s : State) → (B s (call.new_setting t)).state ≡ start_of t
 begins F {t} g s =
     ap (λ (o : Outcome). o.state)
-    (F.follows s (call.new-setting t) _ g.handed (said.by_call (calling.setting_starts t (start_of t) g.valid (fresh_own t))))
+    (F.follows s (call.new_setting t) _ g.handed (said.by_call (calling.setting_starts t (start_of t) g.valid (fresh_own t))))
 
 module _ {B : Box} (F : Follows B) {t : Settings} (v : Valid t) where
   pub at-start : Holds t (start_of t)

@@ -56,7 +56,7 @@ odd d =
 
 -- what the setting leaves
 abbrev begun : Box → State
-begun B = (B zero_state (call.new-setting setting)).state
+begun B = (B zero_state (call.new_setting setting)).state
 
 -- and of this box
 abbrev short : State
@@ -64,7 +64,7 @@ short = sooner start
 
 begins-short : begun early ≡ short
 begins-short =
-    ap (λ (b : Bool). (cond b (call.hands_out done short short) (ours zero_state (call.new-setting setting))).state)
+    ap (λ (b : Bool). (cond b (call.hands_out done short short) (ours zero_state (call.new_setting setting))).state)
     ((valid_is.valid_is setting).1 good)
 
 short-well : WellFormed short

@@ -29,7 +29,7 @@ use Rattle.paper_time.proofs.Steps.{stays, next_moves}
 pub passes-ticks : (cs : List Call) → ticks (map passing cs) ≡ ticks_in cs
 unfolding ticks ticks_in
 passes-ticks [] = refl
-passes-ticks (call.new-setting t ∷ cs) = passes-ticks cs
+passes-ticks (call.new_setting t ∷ cs) = passes-ticks cs
 passes-ticks (call.frame a ∷ cs) = passes-ticks cs
 passes-ticks (call.tick b ∷ cs) = ap suc (passes-ticks cs)
 passes-ticks (call.clear ∷ cs) = passes-ticks cs
@@ -40,7 +40,7 @@ passes-ticks (call.conditions ∷ cs) = passes-ticks cs
 pub passes-no-set : (cs : List Call) → NoSet (map passing cs)
 unfolding NoSet
 passes-no-set [] = tt
-passes-no-set (call.new-setting t ∷ cs) = passes-no-set cs
+passes-no-set (call.new_setting t ∷ cs) = passes-no-set cs
 passes-no-set (call.frame a ∷ cs) = passes-no-set cs
 passes-no-set (call.tick b ∷ cs) = passes-no-set cs
 passes-no-set (call.clear ∷ cs) = passes-no-set cs
@@ -53,7 +53,7 @@ passes-no-set (call.conditions ∷ cs) = passes-no-set cs
 pub wires : (t : Settings) (k : ℕ) (cs : List Call) → Fits t k cs → Each OnWire cs
 unfolding Fits Each
 wires t k [] f = tt
-wires t k (call.new-setting u ∷ cs) f = (f.0, wires t k cs f.2)
+wires t k (call.new_setting u ∷ cs) f = (f.0, wires t k cs f.2)
 wires t k (call.frame a ∷ cs) f = (f.0, wires t k cs f.1)
 wires t k (call.tick b ∷ cs) f = (tt, wires t (suc k) cs f.1)
 wires t k (call.clear ∷ cs) f = (tt, wires t k cs f)
@@ -107,7 +107,7 @@ module _ {B : Box} (F : Follows B) {t : Settings} (v : Valid t) where
       → AllGood (step B) Good s cs
   unfolding Fits AllGood
   all-good [] k f s H e = tt
-  all-good (call.new-setting u ∷ cs) k f s H e = one_more (call.new-setting u) cs s _ H (f.0, f.1) e (all-good cs k f.2)
+  all-good (call.new_setting u ∷ cs) k f s H e = one_more (call.new_setting u) cs s _ H (f.0, f.1) e (all-good cs k f.2)
   all-good (call.frame a ∷ cs) k f s H e = one_more (call.frame a) cs s _ H f.0 e (all-good cs k f.1)
   all-good (call.tick b ∷ cs) k f s H e =
       let p = ticks_of t.period in

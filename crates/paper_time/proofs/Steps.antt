@@ -47,8 +47,8 @@ module _ {B : Box} (F : Follows B) where
       pub timers : (x : Timer) → ((h : ℕ) × Sets t x c h) ⊎ (timer_of x z ≡ moved (timer_of x s) (passing c))
 
     kept : (c : Call) → Good s c → Kept c (B s c).state
-    kept (call.new-setting d) f = let z = (promises.kept B F).zeros s d f.0 f.1 in
-        let e : (B s (call.new-setting d)).state ≡ s = ap (λ (o : Outcome). o.state) z.2 in
+    kept (call.new_setting d) f = let z = (promises.kept B F).zeros s d f.0 f.1 in
+        let e : (B s (call.new_setting d)).state ≡ s = ap (λ (o : Outcome). o.state) z.2 in
         record {
           settings = ap (λ (x : State). x.settings) e;
           slots = ap (λ (x : State). length x.timers) e;

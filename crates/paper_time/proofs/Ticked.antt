@@ -24,7 +24,7 @@ use Rattle.paper_time.proofs.Changes.{Holds}
 
 -- a call as an event of a timer that it does not set
 abbrev pub passing : Call → Event
-passing (call.new-setting t) = other
+passing (call.new_setting t) = other
 passing (call.frame a) = other
 passing (call.tick b) = event.tick
 passing call.clear = other
@@ -34,7 +34,7 @@ passing call.conditions = other
 
 -- what a call of a run is, in the state that it meets: of its width, a tick with room where a CCM is due, a setting that is refused
 abbrev pub Good : State → Call → Type 0
-Good s (call.new-setting t) = OnWire (call.new-setting t) × (Valid t → ⊥)
+Good s (call.new_setting t) = OnWire (call.new_setting t) × (Valid t → ⊥)
 Good s (call.frame a) = OnWire (call.frame a)
 Good s (call.tick b) = s.next ≤ 1 → 89 ≤ length b
 Good s call.clear = Unit
@@ -43,7 +43,7 @@ Good s (call.send_DMM d b) = OnWire (call.send_DMM d b)
 Good s call.conditions = Unit
 
 pub wire : (s : State) (c : Call) → Good s c → OnWire c
-wire s (call.new-setting t) f = f.0
+wire s (call.new_setting t) f = f.0
 wire s (call.frame a) f = f
 wire s (call.tick b) f = tt
 wire s call.clear f = tt

@@ -52,7 +52,7 @@ apart {t} v (sets.locked a l q e o) z = omega (arith, z, alarm-hold _ o)
 
 -- only a frame sets a timer
 is_frame : Call → Bool
-is_frame (call.new-setting t) = false
+is_frame (call.new_setting t) = false
 is_frame (call.frame a) = true
 is_frame (call.tick b) = false
 is_frame call.clear = false
@@ -100,7 +100,7 @@ module _ (t : Settings) (x : Timer) (v : Valid t) (u : Used t x) where
 
   decides : (c : Call) → OnWire c → ((h : ℕ) × Sets t x c h) ⊎ Unset t x c
   unfolding is_frame
-  decides (call.new-setting d) f = inr (no-frame refl)
+  decides (call.new_setting d) f = inr (no-frame refl)
   decides (call.frame a) f = by-frame a f
   decides (call.tick b) f = inr (no-frame refl)
   decides call.clear f = inr (no-frame refl)

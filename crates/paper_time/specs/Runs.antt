@@ -6,7 +6,7 @@ use Rattle.base_period.specs.Periods.{ticks_of}
 use Rattle.state_settings.specs.Settings.{Settings}
 use Rattle.state_settings.specs.Valid.{Valid}
 use Rattle.state_view.specs.State.{State}
-use Rattle.paper_said.specs.Calls.{Call, new-setting, frame, tick, clear, send_LMM, send_DMM, conditions, OnWire, Box}
+use Rattle.paper_said.specs.Calls.{Call, new_setting, frame, tick, clear, send_LMM, send_DMM, conditions, OnWire, Box}
 
 -- tick number k since the setting is the last of a period, and sends a CCM ("Frames, rule by rule", last paragraph)
 abbrev pub Due : Settings → ℕ → Type 0
@@ -20,7 +20,7 @@ Room t k b = Due t k → 89 ≤ length b
 -- needs, and every further setting one that is refused
 unfoldable pub Fits : Settings → ℕ → List Call → Type 0
 Fits t k [] = Unit {0}
-Fits t k (new-setting u ∷ cs) = OnWire (new-setting u) × (Valid u → ⊥) × Fits t k cs
+Fits t k (new_setting u ∷ cs) = OnWire (new_setting u) × (Valid u → ⊥) × Fits t k cs
 Fits t k (frame a ∷ cs) = OnWire (frame a) × Fits t k cs
 Fits t k (tick b ∷ cs) = Room t (suc k) b × Fits t (suc k) cs
 Fits t k (clear ∷ cs) = Fits t k cs
@@ -36,7 +36,7 @@ Each P (c ∷ cs) = P c × Each P cs
 -- how many ticks a run has
 unfoldable pub ticks_in : List Call → ℕ
 ticks_in [] = 0
-ticks_in (new-setting t ∷ cs) = ticks_in cs
+ticks_in (new_setting t ∷ cs) = ticks_in cs
 ticks_in (frame a ∷ cs) = ticks_in cs
 ticks_in (tick b ∷ cs) = suc (ticks_in cs)
 ticks_in (clear ∷ cs) = ticks_in cs
@@ -49,4 +49,4 @@ step B s c = (B s c).state
 
 -- what the box left of any state s by a setting and the calls after it
 abbrev pub since : Box → State → Settings → List Call → State
-since B s t cs = after (step B) (B s (new-setting t)).state cs
+since B s t cs = after (step B) (B s (new_setting t)).state cs

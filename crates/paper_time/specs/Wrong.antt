@@ -4,7 +4,7 @@ use Rattle.state_settings.specs.Valid.{valid}
 use Rattle.state_view.specs.State.{State}
 use Rattle.state_view.specs.Changed.{put, next}
 use Rattle.call_setting.specs.Start.{start_of}
-use Rattle.paper_said.specs.Calls.{Call, new-setting, frame, tick, clear, send_LMM, send_DMM, conditions, NoSetting}
+use Rattle.paper_said.specs.Calls.{Call, new_setting, frame, tick, clear, send_LMM, send_DMM, conditions, NoSetting}
 use Rattle.paper_said.specs.Calls.{refused, done, hands_out, Box}
 use Rattle.paper_said.specs.Ours.{ours}
 use Rattle.paper_time.specs.Time.{Time}
@@ -15,7 +15,7 @@ sooner s = put next (s.next - 1) s
 
 -- ours, but a setting that is taken starts with a tick less than a period to run: that state it leaves, and that it returns
 abbrev pub early : Box
-early s (new-setting t) = cond (valid t) (hands_out done (sooner (start_of t)) (sooner (start_of t))) (ours s (new-setting t))
+early s (new_setting t) = cond (valid t) (hands_out done (sooner (start_of t)) (sooner (start_of t))) (ours s (new_setting t))
 early s (frame a) = ours s (frame a)
 early s (tick b) = ours s (tick b)
 early s clear = ours s clear

@@ -5,7 +5,7 @@ use Rattle.state_settings.specs.Settings.{slots}
 use Rattle.loss_session.specs.declared.LossSession.{LossSession}
 use Rattle.state_view.specs.State.{State}
 use Rattle.state_view.specs.Changed.{with_slots, with_session}
-use Rattle.paper_said.specs.Calls.{new-setting, frame, tick, clear, send_LMM, send_DMM, conditions, Answer, refused, dropped, passed, taken, written, loss, delay, delays, done, standing, Outcome, leaves, Box}
+use Rattle.paper_said.specs.Calls.{new_setting, frame, tick, clear, send_LMM, send_DMM, conditions, Answer, refused, dropped, passed, taken, written, loss, delay, delays, done, standing, Outcome, leaves, Box}
 use Rattle.paper_said.specs.Ours.{ours}
 use Rattle.paper_loss.specs.Demand3.{Demand3}
 
@@ -67,7 +67,7 @@ signless s c = signed_off (ours s c)
 
 -- a clear that clears nothing
 abbrev pub lingers : Box
-lingers s (new-setting t) = ours s (new-setting t)
+lingers s (new_setting t) = ours s (new_setting t)
 lingers s (frame a) = ours s (frame a)
 lingers s (tick b) = ours s (tick b)
 lingers s clear = leaves done s []

@@ -2,7 +2,8 @@
 // Standard input has a frame a line, in hex: the TLV type that is asked for, then the frame's octets; blanks are passed over, and `#`
 // begins a comment, so a fitter can type it. Each line prints its message with the fields, or `refused N` or `dropped N`, and after a bar
 // what the reader says of the TLV. A line that is not octets is named on standard error too. Any argument gets a usage line there, and
-// nothing is printed. The test input has a reason above each frame, decided from the papers and not from the program.
+// nothing is printed. Where standard output takes no more, that error ends the program. The test input has a reason above each frame,
+// decided from the papers and not from the program.
 #![tactic(auto)]
 
 ghost use Rattle.std.specs.Prelude.{◌≤◌, length};

@@ -1,5 +1,6 @@
 // Prints the paper's table: each period code with its name, its ticks and its hold time.
 // Codes 0 and 8 show that others have none. Any argument gets a usage line on standard error, and nothing is printed.
+// Where standard output takes no more, that error ends the program.
 #![tactic(auto)]
 
 use std::env::FillError;

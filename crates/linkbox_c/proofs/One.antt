@@ -80,7 +80,7 @@ linkbox_write_line_one = records.linkbox_write_line_one
 
 pub linkbox_measure_one : (κs : _) (a : _) (r r' : _) (s s' : _) → measure.Post κs a r s → measure.Post κs a r' s'
     → (r ≡ r') × (s.0.now ≡ s'.0.now)
-linkbox_measure_one = session.linkbox_measure_one
+linkbox_measure_one = session.linkbox_measure_leaves_one
 
 pub linkbox_tlv_one : (κs : _) (a : _) (r r' : _) (s s' : _) → tlv.Post κs a r s → tlv.Post κs a r' s' → r ≡ r'
 linkbox_tlv_one = reader.linkbox_tlv_one

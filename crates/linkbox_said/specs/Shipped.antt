@@ -77,7 +77,7 @@ pub record Shipped : Type 1 where
 -- the same of the lent session (`loss_lent.LentSaid`), stored records (`paper_beside.RecordSaid`), a box's own loss line among them, and
 -- the reader of TLVs (`paper_beside.ReaderSaid`)
 pub record ShippedBeside : Type 1 where
-  -- the lent session's function, whose proof is by hand, has its clause `Lent` in place of a `Reads.Post`
+  -- the lent session's function, by its clause `Lent`
   pub measure : FollowsLent Lent
   -- settings that are read, zeros beside 7
   pub read_settings : (κs : _) (a : _) (r : _) (s : _) → read_settings.Post κs a r s → (o : RecordLeft)

@@ -2,7 +2,7 @@
 // A run of lent calls gives the numbers of the rule by value and leaves its session. `loss_lent.LentDemand3` is a predicate on any lent
 // call, in the order's words: from a cleared session on, the results, both totals and the intervals are the account's, for at most
 // 1,000,000,001 readings of true counts; after these a reading is refused with 5 and changes nothing. The one function that is lent a
-// struct is `linkbox_session::linkbox_measure`, whose long proof by hand would else be repeated for every edit of the rule.
+// struct is `linkbox_session::linkbox_measure`: it calls the function by value and stores the session that this returns.
 #![tactic(auto)]
 
 ghost use Rattle.loss_session.specs.Session.{readings};

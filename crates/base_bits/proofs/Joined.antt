@@ -14,10 +14,6 @@ pub joined : (w a j k b m : ℕ) → a % 2 ^ j * 2 ^ k < 2 ^ w → b % 2 ^ m < 2
 joined w a j k b m fits low =
     rw (and_mask a j, and_mask b m, mod-eq_of_lt fits) (or_shifted (a % 2 ^ j) k (b % 2 ^ m) low)
 
--- an octet under any mask is a number of 32 bits
-pub masked_fits : (a m : ℕ) → a < 2 ^ 8 → Fits w32 (bit_and a m)
-masked_fits a m h = record { fits = omega (arith, and_le_l a m) }
-
 -- two masked numbers, the first times s, are an octet where no mask lets more through
 pub joined-fits : (a m s b n : ℕ) → T (ltb (m * s) 256) → T (ltb n 256) → Fits w8 (bit_or (bit_and a m * s % 2 ^ 32) (bit_and b n))
 joined-fits a m s b n h k =

@@ -32,10 +32,8 @@ fn write_pairs(into: &mut [u8], at: usize, octets: &[u8])
     requires { at + 2 * length octets.now ≤ length into.old }
     ensures { into.new ≡ laid at (hex_pairs octets.now) into.old }
 {
-    let mut i: usize = 0;
-    while i < octets.len() {
-        write_pair(into, at + 2 * i, octets[i]);
-        i += 1;
+    for (i, octet) in octets.iter().enumerate() {
+        write_pair(into, at + 2 * i, *octet);
     }
 }
 

@@ -51,18 +51,6 @@ fn digits_before(into: &mut [u8], end: usize, size: u64) -> usize
     begin
 }
 
-// How large a number is, its sign left out. The size of one below 0 is one more than -1 less the number, which no cast loses, -2^63
-// included.
-fn size_of(value: i64) -> u64
-    ensures { result ≡ nat_abs value }
-{
-    if value < 0 {
-        ((-1 - value) as u64) + 1
-    } else {
-        value as u64
-    }
-}
-
 // How many octets a number's sign takes.
 fn sign_of(value: i64) -> usize
     ensures { result + length (digits_of (nat_abs value)) ≡ length (decimal value) }
@@ -83,7 +71,7 @@ pub fn put_before(into: &mut [u8], end: usize, value: i64) -> usize
     if into.len() < end {
         return end;
     }
-    digits_before(into, end, size_of(value)) - sign_of(value)
+    digits_before(into, end, value.unsigned_abs()) - sign_of(value)
 }
 
 // Writes the text of a number at a place, and returns the place behind it; where it does not fit, nothing is changed and `at` is returned.

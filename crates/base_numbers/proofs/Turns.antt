@@ -1,27 +1,21 @@
 -- One turn of each loop of src/lib.rt. Assumes nothing.
 use Prim.Native.Nat.{ℕ, ◌+◌, ◌*◌, ◌/◌, ◌%◌, ◌^◌, ◌-◌, ◌≤◌, ◌<◌}
-use mathlib.Core.Path.{◌≡◌, sym, ap, ◌∙◌}
-use mathlib.Core.List.{List, [], ◌∷◌, ◌++◌}
+use mathlib.Core.Path.{◌≡◌, refl, sym, ap, ◌∙◌}
+use mathlib.Core.List.{List, [], ◌∷◌, ◌++◌, append_assoc}
 use native.Mathlib.Nat.{pow-suc, pow-le-pow_right}
 use native.Mathlib.Numerals.{add-one}
 use native.Mathlib.Omega.{arith}
 use lib.Arith.{digits_lt}
-use lib.Bits.{bit_and, and_le_r}
-use lib.Dec.{T, ltb, lit<}
-use lib.ListN.{length, get_or, set}
-use mir.Syntax.{w8}
-use mir.Val.{Fits}
+use lib.Bits.{bit_and, and_mask}
+use lib.ListN.{length, get_or, set, take, drop}
 use Rattle.base_laws.specs.Lists.{part, laid}
-use Rattle.base_laws.proofs.Parts.{part-append, part_cons, part_none}
-use Rattle.base_laws.proofs.Overlaid.{laid_none, laid_more, laid-before}
+use Rattle.base_laws.proofs.Parts.{length_part}
+use Rattle.base_octets.specs.Octets.{Octets}
+use Rattle.base_octets.proofs.Octets.{part-octets}
+use Rattle.std.proofs.lemmas.List.{take_more, take_more_set}
+use Rattle.base_laws.proofs.Overlaid.{laid-before}
 use Rattle.base_numbers.specs.Numbers.{Order, little_endian, big_endian, number, number_lowest_first, octets_lowest_first, in_octets}
-use Rattle.base_numbers.proofs.Laws.{big_more, little_more, little_next, big_next, length-octets, divided}
-
--- a number under a mask below 256 is an octet
-pub masked_fits : (a m : ℕ) → T (ltb m 256) → Fits w8 (bit_and a m)
-masked_fits a m h =
-    let most : m < 256 = lit< h in
-    record { fits = omega (arith, and_le_r a m) }
+use Rattle.base_numbers.proofs.Laws.{big_more, little_next, big_next, length-octets, divided}
 
 -- a number in k octets, and one octet more
 pub more-below : (k r x : ℕ) → r < 256 ^ k → x < 256 → r * 256 + x < 256 ^ (k + 1)
@@ -31,63 +25,59 @@ more-below k r x h b = rw (add-one k, pow-suc 256 k) (digits_lt h b)
 pub most-below : (k : ℕ) → k ≤ 4 → 256 ^ k ≤ 2 ^ 32
 most-below k h = pow-le-pow_right {n = 256} (omega arith) h
 
-pub part-one : (at : ℕ) (s : List ℕ) → at < length s → part at 1 s ≡ get_or s at 0 ∷ []
-part-one at s h = part_cons at 0 s 0 h ∙ ap (λ (l : List ℕ). get_or s at 0 ∷ l) (part_none (at + 1) s)
+-- the part `&s[at..at + n]` of a slice
+module _ (at n : ℕ) (s : List ℕ) where
+  pub items_part : take (at + n - at) (drop at s) ≡ part at n s
+  unfolding part
+  items_part =
+      let e : at + n - at ≡ n = omega arith in
+      rw e
+
+  pub items-long : at + n ≤ length s → length (take (at + n - at) (drop at s)) ≡ n
+  items-long h = ap length items_part ∙ length_part at n s h
+
+  pub items-octets : Octets s → Octets (take (at + n - at) (drop at s))
+  items-octets h = rw items_part (part-octets at n s h)
 
 -- no octets spell 0
-pub big_none : (at : ℕ) (s : List ℕ) → 0 ≡ number big_endian (part at 0 s)
+pub big_none : 0 ≡ number big_endian []
 unfolding number number_lowest_first
-big_none at s = sym (ap (number big_endian) (part_none at s))
+big_none = refl
 
-pub little_none : (at : ℕ) (s : List ℕ) → 0 ≡ number little_endian (part at 0 s)
+pub little_none : 0 ≡ number little_endian []
 unfolding number number_lowest_first
-little_none at s = sym (ap (number little_endian) (part_none at s))
+little_none = refl
 
--- the number that i octets and one more behind them spell, the highest first
-pub big_turn : (at i : ℕ) (s : List ℕ) → at + i < length s
-    → number big_endian (part at (i + 1) s) ≡ number big_endian (part at i s) * 256 + get_or s (at + i) 0
-big_turn at i s h =
-    ap (number big_endian) (part-append at i 1 s ∙ ap (λ (l : List ℕ). part at i s ++ l) (part-one (at + i) s h))
-    ∙ big_more (part at i s) (get_or s (at + i) 0)
+-- the number that i octets and the next one spell, the highest first
+pub big_turn : (xs : List ℕ) (i : ℕ) → i < length xs
+    → number big_endian (take (i + 1) xs) ≡ number big_endian (take i xs) * 256 + get_or xs i 0
+big_turn xs i h = ap (number big_endian) (take_more xs i 0 h) ∙ big_more (take i xs) (get_or xs i 0)
 
--- the number that k octets and one more before them spell, the lowest first
-pub little_turn : (at k : ℕ) (s : List ℕ) → at < length s
-    → number little_endian (part at (k + 1) s) ≡ number little_endian (part (at + 1) k s) * 256 + get_or s at 0
-little_turn at k s h =
-    ap (number little_endian) (ap (λ (n : ℕ). part at n s) (add-one k) ∙ part_cons at k s 0 h)
-    ∙ little_more (get_or s at 0) (part (at + 1) k s)
+-- from the last octet to the first: the last of those left goes before those done
+pub before_done : (all left rest done : List ℕ) (x : ℕ) → all ≡ left ++ done → left ≡ rest ++ (x ∷ []) → all ≡ rest ++ (x ∷ done)
+before_done all left rest done x e s = e ∙ ap (λ (l : List ℕ). l ++ done) s ∙ append_assoc rest (x ∷ []) done
 
--- a loop that reads from the last octet to the first, at its start and at each turn: r is the number in the octets from i on
-module _ (at n : ℕ) (s : List ℕ) where
-  pub down-start : (0 ≡ number little_endian (part (at + n) (n - n) s)) × (0 < 256 ^ (n - n))
-  down-start =
-      let e : n - n ≡ 0 = omega arith in
-      rw e (little_none (at + n) s, omega arith)
+pub none-left : (all left done : List ℕ) → all ≡ left ++ done → length left ≡ 0 → all ≡ done
+none-left all [] done e h = e
+none-left all (x ∷ left) done e h = absurd (omega arith)
 
-  pub down_turn : (i r : ℕ) → 0 < i → i ≤ n → at + n ≤ length s → r ≡ number little_endian (part (at + i) (n - i) s)
-      → number little_endian (part (at + (i - 1)) (n - (i - 1)) s) ≡ r * 256 + get_or s (at + (i - 1)) 0
-  down_turn i r low high fits e =
-      let more : n - (i - 1) ≡ n - i + 1 = omega arith in
-      let next : at + (i - 1) + 1 ≡ at + i = omega arith in
-      ap (λ (k : ℕ). number little_endian (part (at + (i - 1)) k s)) more
-      ∙ little_turn (at + (i - 1)) (n - i) s (omega arith)
-      ∙ ap (λ (k : ℕ). number little_endian (part k (n - i) s) * 256 + get_or s (at + (i - 1)) 0) next
-      ∙ ap (λ (k : ℕ). k * 256 + get_or s (at + (i - 1)) 0) (sym e)
-
--- loops that write v, octet by octet from the lowest: at the start nothing is laid, and each turn lays one more
-pub laid-nothing : (o : Order) (at v : ℕ) (s : List ℕ) → s ≡ laid at (in_octets o 0 v) s
+-- loops that write v, octet by octet from the lowest: at the start nothing is written, and each turn writes one more
+pub no-octets : (o : Order) (v : ℕ) → [] ≡ in_octets o 0 v
 unfolding in_octets octets_lowest_first
-laid-nothing little_endian at v s = sym (laid_none at s)
-laid-nothing big_endian at v s = sym (laid_none at s)
+no-octets little_endian v = refl
+no-octets big_endian v = refl
 
-pub up_turn : (at i v : ℕ) (s : List ℕ) → at + i < length s
-    → set (laid at (in_octets little_endian i v) s) (at + i) (v / 256 ^ i % 256) ≡ laid at (in_octets little_endian (i + 1) v) s
-up_turn at i v s h =
-    let xs = in_octets little_endian i v in
-    let e : at + length xs ≡ at + i = ap (λ (k : ℕ). at + k) (length-octets little_endian i v) in
-    ap (λ (k : ℕ). set (laid at xs s) k (v / 256 ^ i % 256)) (sym e)
-    ∙ laid_more at xs s (v / 256 ^ i % 256) (omega arith)
-    ∙ ap (λ (l : List ℕ). laid at l s) (sym (little_next i v))
+-- the octet that stands for v once k octets are written
+pub octet-of : (k v rest : ℕ) → rest ≡ v / 256 ^ k → bit_and rest 255 ≡ v / 256 ^ k % 256
+octet-of k v rest e = and_mask rest 8 ∙ ap (λ (m : ℕ). m % 256) e
+
+pub up_turn : (i v rest : ℕ) (xs : List ℕ) → i < length xs → take i xs ≡ in_octets little_endian i v → rest ≡ v / 256 ^ i
+    → take (i + 1) (set xs i (bit_and rest 255)) ≡ in_octets little_endian (i + 1) v
+up_turn i v rest xs h e r =
+    take_more_set xs i (bit_and rest 255) h
+    ∙ ap (λ (l : List ℕ). l ++ (bit_and rest 255 ∷ [])) e
+    ∙ ap (λ (x : ℕ). in_octets little_endian i v ++ (x ∷ [])) (octet-of i v rest r)
+    ∙ sym (little_next i v)
 
 big_turn_down : (at k v : ℕ) (s : List ℕ) → at + 1 + k ≤ length s
     → set (laid (at + 1) (in_octets big_endian k v) s) at (v / 256 ^ k % 256) ≡ laid at (in_octets big_endian (k + 1) v) s
@@ -96,18 +86,21 @@ big_turn_down at k v s h =
     let e : length xs ≡ k = length-octets big_endian k v in
     laid-before at xs s (v / 256 ^ k % 256) (omega arith) ∙ ap (λ (l : List ℕ). laid at l s) (sym (big_next k v))
 
--- the place counted down from n: i octets are still to be written
-module _ (at n i v : ℕ) (s : List ℕ) (low : 0 < i) (high : i ≤ n) (fits : at + n ≤ length s) where
-  pub down_write : set (laid (at + i) (in_octets big_endian (n - i) v) s) (at + (i - 1)) (v / 256 ^ (n - i) % 256)
-      ≡ laid (at + (i - 1)) (in_octets big_endian (n - (i - 1)) v) s
-  down_write =
-      let next : at + i ≡ at + (i - 1) + 1 = omega arith in
-      let more : n - i + 1 ≡ n - (i - 1) = omega arith in
-      ap (λ (k : ℕ). set (laid k (in_octets big_endian (n - i) v) s) (at + (i - 1)) (v / 256 ^ (n - i) % 256)) next
-      ∙ big_turn_down (at + (i - 1)) (n - i) v s (omega arith)
-      ∙ ap (λ (k : ℕ). laid (at + (i - 1)) (in_octets big_endian k v) s) more
+-- the place counted down to `at`: the octets from place i on are written
+module _ (at n i v : ℕ) (s : List ℕ) (low : at < i) (high : i ≤ at + n) (fits : at + n ≤ length s) where
+  pub down_write : (rest : ℕ) → rest ≡ v / 256 ^ (at + n - i)
+      → set (laid i (in_octets big_endian (at + n - i) v) s) (i - 1) (bit_and rest 255)
+      ≡ laid (i - 1) (in_octets big_endian (at + n - (i - 1)) v) s
+  down_write rest r =
+      let k = at + n - i in
+      let next : i ≡ i - 1 + 1 = omega arith in
+      let more : k + 1 ≡ at + n - (i - 1) = omega arith in
+      ap (λ (x : ℕ). set (laid i (in_octets big_endian k v) s) (i - 1) x) (octet-of k v rest r)
+      ∙ ap (λ (m : ℕ). set (laid m (in_octets big_endian k v) s) (i - 1) (v / 256 ^ k % 256)) next
+      ∙ big_turn_down (i - 1) k v s (omega arith)
+      ∙ ap (λ (m : ℕ). laid (i - 1) (in_octets big_endian m v) s) more
 
-  pub down-rest : v / 256 ^ (n - i) / 256 ≡ v / 256 ^ (n - (i - 1))
+  pub down-rest : v / 256 ^ (at + n - i) / 256 ≡ v / 256 ^ (at + n - (i - 1))
   down-rest =
-      let more : n - i + 1 ≡ n - (i - 1) = omega arith in
-      divided (n - i) v ∙ ap (λ (k : ℕ). v / 256 ^ k) more
+      let more : at + n - i + 1 ≡ at + n - (i - 1) = omega arith in
+      divided (at + n - i) v ∙ ap (λ (k : ℕ). v / 256 ^ k) more

@@ -2,7 +2,8 @@
 // What is written at a place reads back there, every other octet is as it was, and n octets are a number below 256^n and back. A number
 // is said of a list, in an order, and a place is the part of a list that is there: so one law serves every n, every field and both
 // orders, and big-endian is little-endian from the other end. One function reads every width up to four octets and one writes it; a wire
-// number is a 32-bit word in the code, whatever its width on the wire.
+// number is a 32-bit word in the code, whatever its width on the wire. Each order has a function of its own: a trait of orders would hold
+// these same four loops, and two types more.
 #![tactic(auto)]
 
 ghost use Rattle.std.specs.Prelude.{◌≡◌, ◌+◌, ◌≤◌, length};
@@ -15,10 +16,8 @@ pub fn read_big(from: &[u8], at: usize, n: usize) -> u32
     ensures { NumberAt big_endian from.now at n result }
 {
     let mut sum: u32 = 0;
-    let mut i: usize = 0;
-    while i < n {
-        sum = sum * 256 + from[at + i] as u32;
-        i += 1;
+    for octet in &from[at..at + n] {
+        sum = sum * 256 + *octet as u32;
     }
     sum
 }
@@ -29,10 +28,8 @@ pub fn read_little(from: &[u8], at: usize, n: usize) -> u32
     ensures { NumberAt little_endian from.now at n result }
 {
     let mut sum: u32 = 0;
-    let mut left: usize = n;
-    while 0 < left {
-        left -= 1;
-        sum = sum * 256 + from[at + left] as u32;
+    for lower in from[at..at + n].iter().rev() {
+        sum = sum * 256 + *lower as u32;
     }
     sum
 }
@@ -43,11 +40,10 @@ pub fn write_big(into: &mut [u8], at: usize, n: usize, value: u32)
     ensures { into.new ≡ laid at (in_octets big_endian n value) into.old }
 {
     let mut rest = value;
-    let mut left: usize = n;
-    while 0 < left {
-        left -= 1;
-        into[at + left] = (rest & 255) as u8;
-        rest = rest >> 8;
+    // By number: behind `iter_mut().rev()` a proof has the slice's length, and not what was written.
+    for i in (at..at + n).rev() {
+        into[i] = (rest & 255) as u8;
+        rest >>= 8;
     }
 }
 
@@ -57,10 +53,8 @@ pub fn write_little(into: &mut [u8], at: usize, n: usize, value: u32)
     ensures { into.new ≡ laid at (in_octets little_endian n value) into.old }
 {
     let mut rest = value;
-    let mut i: usize = 0;
-    while i < n {
-        into[at + i] = (rest & 255) as u8;
-        rest = rest >> 8;
-        i += 1;
+    for octet in &mut into[at..at + n] {
+        *octet = (rest & 255) as u8;
+        rest >>= 8;
     }
 }

@@ -1,4 +1,4 @@
 pub mod Octets
 pub mod Written
-pub mod Turns
+pub mod Copied
 pub mod One

@@ -9,9 +9,5 @@ pub fn copy_octets(into: &mut [u8], at: usize, from: &[u8])
     requires { at + length from.now ≤ length into.old }
     ensures { into.new ≡ laid at from.now into.old }
 {
-    let mut i: usize = 0;
-    while i < from.len() {
-        into[at + i] = from[i];
-        i += 1;
-    }
+    into[at..at + from.len()].copy_from_slice(from);
 }

@@ -7,7 +7,7 @@
 ghost use Rattle.std.specs.Prelude.{◌≡◌};
 ghost use Rattle.base_period.specs.Periods.{ticks_of, hold_of, period_of};
 
-// A period: its ticks and its hold time. No period is 0 ticks and hold time 0.
+// A period: its ticks and its hold time. Both are 0 where there is no period; no `Option`, since `ticks_of` and `hold_of` are so.
 #[derive(Clone, Copy)]
 pub struct Period {
     pub ticks: u32,
@@ -54,6 +54,7 @@ impl Period {
     pub fn from_code(code: u32) -> Self
         ensures { result ≡ period_of code }
     {
+        // by this name and no `From`: lemma `from_code_one`, the edits and the pages cite it
         match code {
             1 => Period {
                 ticks: Period::MS_3_33,

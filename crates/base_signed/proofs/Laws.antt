@@ -1,19 +1,20 @@
 -- The statement of specs/Signed.antt, and eight octets as two halves. Assumes nothing.
-use Prim.Native.Nat.{ℕ, ◌+◌, ◌*◌, ◌^◌, ◌≤◌, ◌<◌}
+use Prim.Native.Nat.{ℕ, ◌+◌, ◌*◌, ◌%◌, ◌^◌, ◌≤◌, ◌<◌}
 use mathlib.Core.Path.{◌≡◌, refl, sym, ap, ◌∙◌}
-use mathlib.Core.List.{List}
+use mathlib.Core.List.{List, [], ◌∷◌}
 use native.Mathlib.Omega.{arith}
 use lib.IntN.{ℤ, negsuc}
 use lib.ListN.{length, replicate}
 use mir.Syntax.{w64}
+use Rattle.std.specs.Int.{to_le_bytes}
 use mir.Val.{Fits, SFits, to_z, of_z}
 use mir.Facts.{to_z-of_z, of_z-to_z, Fits-of_z, Fits-lt-pow}
 use Rattle.base_laws.specs.Lists.{part, laid}
 use Rattle.base_laws.proofs.Parts.{part-append, length_part}
 use Rattle.base_octets.specs.Octets.{Octets}
 use Rattle.base_octets.proofs.Octets.{part-octets}
-use Rattle.base_numbers.specs.Numbers.{little_endian, number, number_lowest_first, in_octets}
-use Rattle.base_numbers.proofs.Laws.{number-below, number-back, put_back, little_append, read_again}
+use Rattle.base_numbers.specs.Numbers.{little_endian, number, number_lowest_first, octets_lowest_first, in_octets}
+use Rattle.base_numbers.proofs.Laws.{number-below, number-back, put_back, little_append, little_next, read_again}
 use Rattle.base_signed.specs.Signed.{SignedNumbers}
 
 pub signed_back : (at : ℕ) (z : ℤ) (s : List ℕ) → at + 8 ≤ length s → SFits w64 z
@@ -36,6 +37,23 @@ eight-read at s h =
     ap (number little_endian) (part-append at 4 4 s) ∙ little_append low high in
     let size : 256 ^ length low ≡ 256 ^ 4 = ap (λ (k : ℕ). 256 ^ k) e in
     sym (halves ∙ rw size (omega arith))
+
+one-octet : (v : ℕ) → in_octets little_endian 1 v ≡ v % 256 ∷ []
+unfolding in_octets octets_lowest_first
+one-octet v = refl
+
+-- eight octets written at once
+pub eight-octets : (v : ℕ) → to_le_bytes w64 v ≡ in_octets little_endian 8 v
+eight-octets v = sym (rw (
+  little_next 7 v,
+  little_next 6 v,
+  little_next 5 v,
+  little_next 4 v,
+  little_next 3 v,
+  little_next 2 v,
+  little_next 1 v,
+  one-octet v,
+))
 
 pub signed_again : (at : ℕ) (s : List ℕ) → at + 8 ≤ length s → Octets s
     → in_octets little_endian 8 (of_z w64 (to_z w64 (number little_endian (part at 8 s)))) ≡ part at 8 s

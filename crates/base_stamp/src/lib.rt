@@ -7,7 +7,7 @@ ghost use Rattle.base_stamp.specs.Stamps.{good, given};
 
 // A time as the wire has it. Any content is a value: too many nanoseconds are answered, not assumed away.
 #[repr(C)]
-#[derive(Clone, Copy)]
+#[derive(Clone, Copy, Default)]
 pub struct Stamp {
     pub seconds: u32,
     pub nanoseconds: u32,
@@ -24,5 +24,6 @@ pub fn good_stamp(s: Stamp) -> bool
 pub fn given_stamp(s: Stamp) -> bool
     ensures { result ≡ given s }
 {
+    // both halves at once; a derived `==` tests them in turn
     !((s.seconds == 0) & (s.nanoseconds == 0))
 }

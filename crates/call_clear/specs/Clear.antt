@@ -1,20 +1,20 @@
 -- A clear. The paper, rule 7: it forgets the kept reading and sets both totals and the intervals to 0; nothing else changes. Refusal 2.
 -- Definitions and the statement only.
-use Rattle.std.specs.Prelude.{ℕ, ◌≡◌, [], cond, ◌↔◌}
+use Rattle.std.specs.Prelude.{ℕ, ◌≡◌, [], cond, ◌↔◌, Result, Ok, Err}
 use Rattle.base_laws.specs.Ended.{Ended, ended}
 use Rattle.loss_session.specs.Session.{cleared_session}
 use Rattle.state_view.specs.State.{State}
 use Rattle.state_view.specs.WellFormed.{WellFormed, well_formed}
 use Rattle.state_view.specs.Changed.{with_session}
-use Rattle.call_clear.specs.declared.ClearAnswer.{ClearAnswer}
-use Rattle.call_clear.specs.declared.ClearAnswer.TheVariants.{NotWellFormed, Cleared}
+use Rattle.call_clear.specs.declared.ClearRefusal.{ClearRefusal}
+use Rattle.call_clear.specs.declared.ClearRefusal.TheVariants.{NotWellFormed}
 use Rattle.call_clear.specs.declared.ClearTold.{ClearTold}
 
 -- ── the whole outcome ──
 
 -- refusal 2, or the cleared session in its place
-unfoldable pub clear_of : State → Ended State ClearAnswer
-clear_of s = cond (well_formed s) (ended Cleared (with_session cleared_session s) []) (ended NotWellFormed s [])
+unfoldable pub clear_of : State → Ended State (Result Unit ClearRefusal)
+clear_of s = cond (well_formed s) (ended (Ok tt) (with_session cleared_session s) []) (ended (Err NotWellFormed) s [])
 
 -- ── in the paper's numbers ──
 
@@ -23,9 +23,9 @@ abbrev pub tell_clear : ℕ → ClearTold
 tell_clear refusal = record { refusal = refusal }
 
 -- the number of each answer
-unfoldable pub clear_told : ClearAnswer → ClearTold
-clear_told NotWellFormed = tell_clear 2
-clear_told Cleared = tell_clear 0
+unfoldable pub clear_told : Result Unit ClearRefusal → ClearTold
+clear_told (Err NotWellFormed) = tell_clear 2
+clear_told (Ok u) = tell_clear 0
 
 -- the same from the state alone
 abbrev pub clear_numbers : State → ClearTold
@@ -37,7 +37,7 @@ pub record Clears : Type 0 where
   -- a well-formed state stays so
   pub stays : (s : State) → WellFormed s → WellFormed (clear_of s).state
   -- refusal 2 exactly where the state is not well formed, and it stays as it was, whatever it held
-  pub refuses_2 : (s : State) → ((clear_of s).answer ≡ NotWellFormed) ↔ (WellFormed s → ⊥)
+  pub refuses_2 : (s : State) → ((clear_of s).answer ≡ Err NotWellFormed) ↔ (WellFormed s → ⊥)
   pub refused : (s : State) → (WellFormed s → ⊥) → (clear_of s).state ≡ s
   -- reading, intervals and totals are forgotten
   pub forgets : (s : State) → WellFormed s → (clear_of s).state.session ≡ cleared_session

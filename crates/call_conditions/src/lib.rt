@@ -1,18 +1,17 @@
 // Which conditions are active, each by itself, for whoever asks.
 // Refusal 2 where the state is not well formed, and then every value beside it is 0. The call only reads the state, and no buffer is
-// passed in. The answer is a struct with the refusal's number in it, and no enum, since an enum that holds an array is not covered by the
-// toolchain: so there is no `tell`.
+// passed in. The answer is the struct that C is given, with the refusal's number in it, and no `Result`: so there is no `tell`.
 #![tactic(auto)]
 
 ghost use Rattle.std.specs.Prelude.{◌≡◌};
 ghost use Rattle.state_settings.specs.Settings.{slots};
-ghost use Rattle.state_view.specs.State.{before};
+ghost use Rattle.state_view.specs.State.{state_in};
 ghost use Rattle.call_conditions.specs.Conditions.{table, lost_at, shown_of, conditions_of, no_conditions};
 
-use state_settings::{COUNT, Names, PEERS, Set, Slots};
+use state_settings::{COUNT, PEERS, Slots};
 use state_standing::flag_of;
 use state_view::{
-    AIS, LCK, MISMERGE, Run, Totals, UNEXPECTED_LEVEL, UNEXPECTED_MEP, UNEXPECTED_PERIOD,
+    AIS, LCK, LentState, MISMERGE, UNEXPECTED_LEVEL, UNEXPECTED_MEP, UNEXPECTED_PERIOD,
 };
 use state_well_formed::is_well_formed;
 
@@ -42,34 +41,22 @@ pub struct ConditionsTold {
 fn mark_lost(lost: &mut Slots, timers: &Slots, count: u32)
     ensures { lost.new ≡ table (lost_at count timers.now) slots }
 {
-    // a view of the array has its length, and costs nothing
-    let _all: &[u32] = lost;
     let used = count as usize;
-    let mut i: usize = 0;
-    while i < PEERS {
-        lost[i] = flag_of((i < used) & (timers[i] == 0));
-        i += 1;
+    for (i, &timer) in timers.iter().enumerate() {
+        lost[i] = flag_of((i < used) & (timer == 0));
     }
 }
 
 // The conditions of any state.
-fn shown(
-    set: &Set,
-    names: &Names,
-    ids: &Slots,
-    timers: &Slots,
-    rdi: &Slots,
-    run: &Run,
-    totals: &Totals,
-) -> ConditionFlags
-    ensures { result ≡ shown_of (before set names ids timers.now rdi.now run.now totals.now) }
+fn shown(state: LentState<'_>) -> ConditionFlags
+    ensures { result ≡ shown_of (state_in state) }
 {
     let mut lost = [0u32; PEERS];
-    mark_lost(&mut lost, timers, set[COUNT]);
-    let said = *rdi;
+    mark_lost(&mut lost, state.timers, state.settings.set[COUNT]);
+    let run = state.run;
     ConditionFlags {
         lost,
-        rdi: said,
+        rdi: *state.rdi,
         mismerge: flag_of(0 < run[MISMERGE]),
         unexpectedmep: flag_of(0 < run[UNEXPECTED_MEP]),
         unexpectedperiod: flag_of(0 < run[UNEXPECTED_PERIOD]),
@@ -97,18 +84,10 @@ fn none() -> ConditionFlags
 
 // Each condition of a well-formed state: for each slot loss of continuity and RDI, and the six others; refusal 2 and zeros of any other
 // state.
-pub fn conditions(
-    set: &Set,
-    names: &Names,
-    ids: &Slots,
-    timers: &Slots,
-    rdi: &Slots,
-    run: &Run,
-    totals: &Totals,
-) -> ConditionsTold
-    ensures { result ≡ conditions_of (before set names ids timers.now rdi.now run.now totals.now) }
+pub fn conditions(state: LentState<'_>) -> ConditionsTold
+    ensures { result ≡ conditions_of (state_in state) }
 {
-    if !is_well_formed(set, names, ids, timers, rdi, run, totals) {
+    if !is_well_formed(state) {
         return ConditionsTold {
             refusal: 2,
             conditions: none(),
@@ -116,6 +95,6 @@ pub fn conditions(
     }
     ConditionsTold {
         refusal: 0,
-        conditions: shown(set, names, ids, timers, rdi, run, totals),
+        conditions: shown(state),
     }
 }

@@ -7,11 +7,12 @@ use mathlib.Core.List.{List, [], ◌∷◌}
 use lib.Dec.{ltb}
 use lib.ListN.{length}
 use borrow.Author.Tests.{lt-ltb, le-ltb}
+use Rattle.std.specs.Prelude.{Result, Ok, Err}
 use Rattle.base_laws.specs.Ended.{Ended, ended}
 use Rattle.base_laws.specs.Tests.{choose}
 use Rattle.base_laws.specs.Lists.{laid}
-use Rattle.message_parts.specs.declared.parts.Written.{Written}
-use Rattle.message_parts.specs.declared.parts.Written.TheVariants as written
+use Rattle.message_parts.specs.declared.parts.WriteRefusal.{WriteRefusal}
+use Rattle.message_parts.specs.declared.parts.WriteRefusal.TheVariants as written
 use Rattle.message_parts.specs.Buffer.{written_of, buffer_of}
 use Rattle.message_parts.proofs.Written.{none, some}
 
@@ -39,16 +40,20 @@ pub left : {X : Type 0} {x y z : X} {rules : List (Bool × X)} {b t : Bool}
     → b ≡ t → not b ≡ false → Ends rules z y → Ends ((not t, x) ∷ rules) z y
 left e h k = passes (ap not (sym e) ∙ h) k
 
+-- a message is not written for one reason alone
+pub only : (refusal : WriteRefusal) → refusal ≡ written.NoRoom
+only written.NoRoom = refl
+
 -- the last rule, refusal 3, from what the writer of the message has answered and left
-module _ (message buffer : List ℕ) (n : ℕ) (long : length message ≡ n) {answer : Written} {after : List ℕ}
+module _ (message buffer : List ℕ) (n : ℕ) (long : length message ≡ n) {answer : Result ℕ WriteRefusal} {after : List ℕ}
     (wrote : answer ≡ written_of message buffer) (over : after ≡ buffer_of message buffer) where
-  pub short : {S A : Type 0} {s : S} {a : A} {z : Ended S A} → answer ≡ written.NoRoom
+  pub short : {S A : Type 0} {s : S} {a : A} {z : Ended S A} → answer ≡ Err written.NoRoom
       → Ends ((ltb (length buffer) n, ended a s buffer) ∷ []) z (ended a s after)
   short {s = s} {a = a} e =
       let found = none message buffer n long wrote over e in
       record { is = (holds (lt-ltb (length buffer) n found.0)).is ∙ ap (λ y. ended a s y) (sym found.1) }
 
-  pub sent : {S A : Type 0} (f : ℕ → A) {s : S} {x : Ended S A} {k : ℕ} → answer ≡ written.Octets k
+  pub sent : {S A : Type 0} (f : ℕ → A) {s : S} {x : Ended S A} {k : ℕ} → answer ≡ Ok k
       → Ends ((ltb (length buffer) n, x) ∷ []) (ended (f n) s (laid 0 message buffer)) (ended (f k) s after)
   unfolding choose
   sent f {s = s} e =

@@ -6,6 +6,7 @@ use mathlib.Core.List.{List, [], ◌∷◌}
 use lib.Dec.{ltb}
 use lib.ListN.{length}
 use borrow.Author.Tests.{leb-true, leb-false, le-leb, lt-leb, not-true, not-false}
+use Rattle.std.specs.Prelude.{Result, Ok, Err}
 use Rattle.base_laws.specs.Ended.{Ended}
 use Rattle.base_laws.proofs.Tests.{choose-map}
 use Rattle.state_view.specs.State.{State}
@@ -14,17 +15,17 @@ use Rattle.base_stamp.specs.declared.Stamp.{Stamp}
 use Rattle.base_stamp.specs.Stamps.{good, not_given}
 use Rattle.message_requests.proofs.Laid.{dmm-long}
 use Rattle.message_requests.specs.Requests.{dmm_length}
-use Rattle.call_send_answer.specs.declared.DmmAnswer.{DmmAnswer}
-use Rattle.call_send_answer.specs.declared.DmmAnswer.TheVariants.{NotWellFormed, BadStamp, NoRoom, Sent}
+use Rattle.call_send_answer.specs.declared.DmmRefusal.{DmmRefusal}
+use Rattle.call_send_answer.specs.declared.DmmRefusal.TheVariants.{NotWellFormed, BadStamp, NoRoom}
 use Rattle.call_send_answer.specs.Told.{dmm_told}
 use Rattle.call_send_answer.proofs.Lines.{Line, apart, first, later, last, room, well, flat}
 use Rattle.call_send_answer.proofs.Said.{Sending, said, refused, writes, keeps}
 use Rattle.call_send_dmm.specs.Dmm.{dmm_of, send_dmm, dmm_numbers, SendsDmm}
 
-abbrev call : State → Stamp → List ℕ → Sending State DmmAnswer
+abbrev call : State → Stamp → List ℕ → Sending State (Result ℕ DmmRefusal)
 call s stamp buffer = record {
-  refusals = (not (well_formed s), NotWellFormed) ∷ (not (good stamp), BadStamp) ∷ (ltb (length buffer) dmm_length, NoRoom) ∷ [];
-  sent = Sent dmm_length;
+  refusals = (not (well_formed s), Err NotWellFormed) ∷ (not (good stamp), Err BadStamp) ∷ (ltb (length buffer) dmm_length, Err NoRoom) ∷ [];
+  sent = Ok dmm_length;
   state = s;
   message = dmm_of s stamp;
   buffer = buffer;
@@ -41,7 +42,7 @@ stamped stamp =
 
 pub agree : (s : State) (stamp : Stamp) (buffer : List ℕ) → dmm_told (send_dmm s stamp buffer).answer ≡ dmm_numbers s stamp buffer
 unfolding send_dmm dmm_told dmm_numbers
-agree s stamp buffer = choose-map (λ (t : Ended State DmmAnswer). dmm_told t.answer) _ _
+agree s stamp buffer = choose-map (λ (t : Ended State (Result ℕ DmmRefusal)). dmm_told t.answer) _ _
 
 pub dmm-of-long : (s : State) (stamp : Stamp) → length s.settings.losspeer ≡ 6 → length s.settings.own ≡ 6
     → length (dmm_of s stamp) ≡ dmm_length

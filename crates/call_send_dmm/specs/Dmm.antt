@@ -1,6 +1,6 @@
 -- A DMM, when asked. The paper, "A tick": 51 octets, first stamp the caller's, to the loss peer. Refusals 2, 6 and 3, in this order.
 -- Definitions and the statement only.
-use Rattle.std.specs.Prelude.{ℕ, ◌≤◌, ◌<◌, ◌≡◌, List, [], ◌∷◌, not, ◌↔◌, ltb, length}
+use Rattle.std.specs.Prelude.{ℕ, ◌≤◌, ◌<◌, ◌≡◌, List, [], ◌∷◌, not, ◌↔◌, ltb, length, Result, Ok, Err}
 use Rattle.base_laws.specs.Tests.{choose}
 use Rattle.base_laws.specs.Lists.{laid}
 use Rattle.base_laws.specs.Ended.{Ended, ended}
@@ -9,8 +9,8 @@ use Rattle.state_view.specs.WellFormed.{WellFormed, well_formed}
 use Rattle.base_stamp.specs.declared.Stamp.{Stamp}
 use Rattle.base_stamp.specs.Stamps.{good, not_given}
 use Rattle.message_requests.specs.Requests.{dmm_octets, dmm_length}
-use Rattle.call_send_answer.specs.declared.DmmAnswer.{DmmAnswer}
-use Rattle.call_send_answer.specs.declared.DmmAnswer.TheVariants.{NotWellFormed, BadStamp, NoRoom, Sent}
+use Rattle.call_send_answer.specs.declared.DmmRefusal.{DmmRefusal}
+use Rattle.call_send_answer.specs.declared.DmmRefusal.TheVariants.{NotWellFormed, BadStamp, NoRoom}
 use Rattle.message_parts.specs.declared.parts.WrittenTold.{WrittenTold}
 use Rattle.message_parts.specs.Buffer.{tell_written}
 use Rattle.call_send_answer.specs.Told.{dmm_told}
@@ -22,14 +22,14 @@ dmm_of s stamp = dmm_octets s.settings.losspeer s.settings.own s.settings.level 
 -- ── the whole outcome ──
 
 -- refusal 2; refusal 6; refusal 3; the message laid over the buffer's first octets
-unfoldable pub send_dmm : State → Stamp → List ℕ → Ended State DmmAnswer
+unfoldable pub send_dmm : State → Stamp → List ℕ → Ended State (Result ℕ DmmRefusal)
 send_dmm s stamp buffer =
     choose (
-    (not (well_formed s), ended NotWellFormed s buffer)
-    ∷ (not (good stamp), ended BadStamp s buffer)
-    ∷ (ltb (length buffer) dmm_length, ended NoRoom s buffer)
+    (not (well_formed s), ended (Err NotWellFormed) s buffer)
+    ∷ (not (good stamp), ended (Err BadStamp) s buffer)
+    ∷ (ltb (length buffer) dmm_length, ended (Err NoRoom) s buffer)
     ∷ [])
-    (ended (Sent dmm_length) s (laid 0 (dmm_of s stamp) buffer))
+    (ended (Ok dmm_length) s (laid 0 (dmm_of s stamp) buffer))
 
 -- ── in the paper's numbers ──
 
@@ -46,19 +46,19 @@ dmm_numbers s stamp buffer =
 -- each answer exactly where its line holds and none before it does; what it leaves; 51 octets; an all-zero stamp is as good as any
 pub record SendsDmm : Type 0 where
   -- each answer exactly where its line holds and none before it
-  pub refuses_2 : (s : State) (stamp : Stamp) (buffer : List ℕ) → ((send_dmm s stamp buffer).answer ≡ NotWellFormed) ↔ (WellFormed s → ⊥)
-  pub refuses_6 : (s : State) (stamp : Stamp) (buffer : List ℕ) → ((send_dmm s stamp buffer).answer ≡ BadStamp) ↔ (WellFormed s × (999999999 < stamp.nanoseconds))
+  pub refuses_2 : (s : State) (stamp : Stamp) (buffer : List ℕ) → ((send_dmm s stamp buffer).answer ≡ Err NotWellFormed) ↔ (WellFormed s → ⊥)
+  pub refuses_6 : (s : State) (stamp : Stamp) (buffer : List ℕ) → ((send_dmm s stamp buffer).answer ≡ Err BadStamp) ↔ (WellFormed s × (999999999 < stamp.nanoseconds))
   pub refuses_3 : (s : State) (stamp : Stamp) (buffer : List ℕ)
-      → ((send_dmm s stamp buffer).answer ≡ NoRoom) ↔ (WellFormed s × (stamp.nanoseconds ≤ 999999999) × (length buffer < 51))
+      → ((send_dmm s stamp buffer).answer ≡ Err NoRoom) ↔ (WellFormed s × (stamp.nanoseconds ≤ 999999999) × (length buffer < 51))
   pub sends : (s : State) (stamp : Stamp) (buffer : List ℕ)
-      → ((send_dmm s stamp buffer).answer ≡ Sent dmm_length) ↔ (WellFormed s × (stamp.nanoseconds ≤ 999999999) × (51 ≤ length buffer))
+      → ((send_dmm s stamp buffer).answer ≡ Ok dmm_length) ↔ (WellFormed s × (stamp.nanoseconds ≤ 999999999) × (51 ≤ length buffer))
   -- an all-zero stamp is as good as any
-  pub sends_zero : (s : State) (buffer : List ℕ) → WellFormed s → 51 ≤ length buffer → (send_dmm s not_given buffer).answer ≡ Sent dmm_length
+  pub sends_zero : (s : State) (buffer : List ℕ) → WellFormed s → 51 ≤ length buffer → (send_dmm s not_given buffer).answer ≡ Ok dmm_length
   -- a refused call leaves the buffer as it was; what is sent is the DMM, and octets behind it stay
   pub refused : (s : State) (stamp : Stamp) (buffer : List ℕ) → ((dmm_told (send_dmm s stamp buffer).answer).refusal ≡ 0 → ⊥) → (send_dmm s stamp buffer).buffer ≡ buffer
   pub writes : (s : State) (stamp : Stamp) (buffer : List ℕ)
       → (dmm_told (send_dmm s stamp buffer).answer).refusal ≡ 0
-      → send_dmm s stamp buffer ≡ ended (Sent dmm_length) s (laid 0 (dmm_of s stamp) buffer)
+      → send_dmm s stamp buffer ≡ ended (Ok dmm_length) s (laid 0 (dmm_of s stamp) buffer)
   -- whatever is answered, the state stays as it was
   pub keeps : (s : State) (stamp : Stamp) (buffer : List ℕ) → (send_dmm s stamp buffer).state ≡ s
   -- it is 51 octets long, an address being 6

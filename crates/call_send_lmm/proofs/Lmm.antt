@@ -5,23 +5,24 @@ use mathlib.Core.Bool.{not}
 use mathlib.Core.List.{List, [], ◌∷◌}
 use lib.Dec.{ltb}
 use lib.ListN.{length}
+use Rattle.std.specs.Prelude.{Result, Ok, Err}
 use Rattle.base_laws.specs.Ended.{Ended}
 use Rattle.base_laws.proofs.Tests.{choose-map}
 use Rattle.state_view.specs.State.{State}
 use Rattle.state_view.specs.WellFormed.{well_formed}
 use Rattle.message_requests.proofs.Laid.{lmm-long}
 use Rattle.message_requests.specs.Requests.{lmm_length}
-use Rattle.call_send_answer.specs.declared.LmmAnswer.{LmmAnswer}
-use Rattle.call_send_answer.specs.declared.LmmAnswer.TheVariants.{NotWellFormed, NoRoom, Sent}
+use Rattle.call_send_answer.specs.declared.SendRefusal.{SendRefusal}
+use Rattle.call_send_answer.specs.declared.SendRefusal.TheVariants.{NotWellFormed, NoRoom}
 use Rattle.call_send_answer.specs.Told.{lmm_told}
 use Rattle.call_send_answer.proofs.Lines.{apart, first, later, last, room, well}
 use Rattle.call_send_answer.proofs.Said.{Sending, said, refused, writes, keeps}
 use Rattle.call_send_lmm.specs.Lmm.{lmm_of, send_lmm, lmm_numbers, SendsLmm}
 
-abbrev call : State → List ℕ → Sending State LmmAnswer
+abbrev call : State → List ℕ → Sending State (Result ℕ SendRefusal)
 call s buffer = record {
-  refusals = (not (well_formed s), NotWellFormed) ∷ (ltb (length buffer) lmm_length, NoRoom) ∷ [];
-  sent = Sent lmm_length;
+  refusals = (not (well_formed s), Err NotWellFormed) ∷ (ltb (length buffer) lmm_length, Err NoRoom) ∷ [];
+  sent = Ok lmm_length;
   state = s;
   message = lmm_of s;
   buffer = buffer;
@@ -29,7 +30,7 @@ call s buffer = record {
 
 pub agree : (s : State) (buffer : List ℕ) → lmm_told (send_lmm s buffer).answer ≡ lmm_numbers s buffer
 unfolding send_lmm lmm_told lmm_numbers
-agree s buffer = choose-map (λ (t : Ended State LmmAnswer). lmm_told t.answer) _ _
+agree s buffer = choose-map (λ (t : Ended State (Result ℕ SendRefusal)). lmm_told t.answer) _ _
 
 pub lmm-of-long : (s : State) → length s.settings.losspeer ≡ 6 → length s.settings.own ≡ 6 → length (lmm_of s) ≡ lmm_length
 unfolding lmm_of

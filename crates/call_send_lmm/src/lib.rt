@@ -5,38 +5,24 @@
 
 ghost use Rattle.std.specs.Prelude.{◌≡◌};
 ghost use Rattle.base_laws.specs.Ended.{ended};
-ghost use Rattle.state_view.specs.State.{before};
+ghost use Rattle.state_view.specs.State.{state_in};
 ghost use Rattle.call_send_answer.specs.Told.{lmm_told};
 ghost use Rattle.call_send_lmm.specs.Lmm.{send_lmm, lmm_numbers};
 
-use call_send_answer::LmmAnswer;
+use call_send_answer::SendRefusal;
 use message_lmm::write_lmm;
-use message_parts::parts::Written;
-use state_settings::{LEVEL, Names, Set, Slots};
-use state_view::{Run, SENT, Totals};
+use state_settings::LEVEL;
+use state_view::{LentState, SENT};
 use state_well_formed::is_well_formed;
 
 // Writes an LMM to the loss peer with our sent count; refusal 2 or 3.
-pub fn send_lmm(
-    set: &Set,
-    names: &Names,
-    ids: &Slots,
-    timers: &Slots,
-    rdi: &Slots,
-    run: &Run,
-    totals: &Totals,
-    out: &mut [u8],
-) -> LmmAnswer
-    ensures { (ended result (before set names ids timers.now rdi.now run.now totals.now) out.new ≡
-        send_lmm (before set names ids timers.now rdi.now run.now totals.now) out.old)
-        × (lmm_told result ≡ lmm_numbers (before set names ids timers.now rdi.now run.now totals.now) out.old) }
+pub fn send_lmm(state: LentState<'_>, out: &mut [u8]) -> Result<usize, SendRefusal>
+    ensures { (ended result (state_in state) out.new ≡ send_lmm (state_in state) out.old)
+        × (lmm_told result ≡ lmm_numbers (state_in state) out.old) }
 {
-    if !is_well_formed(set, names, ids, timers, rdi, run, totals) {
-        return LmmAnswer::NotWellFormed;
+    if !is_well_formed(state) {
+        return Err(SendRefusal::NotWellFormed);
     }
-    let written = write_lmm(out, names, set[LEVEL], run[SENT]);
-    match written {
-        Written::NoRoom => LmmAnswer::NoRoom,
-        Written::Octets(n) => LmmAnswer::Sent(n),
-    }
+    let LentState { settings, run, .. } = state;
+    Ok(write_lmm(out, settings.names, settings.set[LEVEL], run[SENT])?)
 }

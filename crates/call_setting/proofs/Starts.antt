@@ -5,6 +5,7 @@ use mathlib.Core.Bool.{Bool, true, false, cond}
 use mathlib.Core.List.{List, [], ◌∷◌}
 use native.Mathlib.Omega.{arith}
 use lib.ListN.{get_or, replicate}
+use Rattle.std.specs.Prelude.{Ok, Err}
 use Rattle.base_laws.specs.Lists.{on_first}
 use Rattle.base_laws.proofs.OnFirst.{changes}
 use Rattle.base_period.specs.Periods.{hold_of}
@@ -14,7 +15,7 @@ use Rattle.state_settings.specs.Valid.{Valid, valid}
 use Rattle.loss_session.proofs.Laws.{cleared_well}
 use Rattle.state_view.specs.State.{shown}
 use Rattle.state_view.specs.WellFormed.{WellFormed}
-use Rattle.call_setting.specs.declared.SettingAnswer.TheVariants.{Invalid, Set}
+use Rattle.call_setting.specs.declared.SettingRefusal.TheVariants.{Invalid}
 use Rattle.call_setting.specs.Told.{setting_told}
 use Rattle.call_setting.specs.Start.{start_of, zero_state, after_setting, answer_of, started_with, no_state, setting_of, setting_numbers}
 use Rattle.call_setting.specs.Start.{Starts}
@@ -56,7 +57,7 @@ zero_not w = let h : 1 ≤ 0 = w.settings.some_period in omega arith
 
 -- ── valid or not ──
 
-tells : (b : Bool) → setting_told (cond b Set Invalid) ≡ cond b (record { refusal = 0 }) (record { refusal = 4 })
+tells : (b : Bool) → setting_told (cond b (Ok tt) (Err Invalid)) ≡ cond b (record { refusal = 0 }) (record { refusal = 4 })
 unfolding setting_told
 tells true = refl
 tells false = refl
@@ -65,7 +66,7 @@ pub agree : (s : Settings) → setting_told (answer_of s) ≡ setting_numbers s
 agree s = tells (valid s)
 
 module _ (words names ids : List ℕ) where
-  answered : (b : Bool) → (cond b (started_with words names ids) no_state).answer ≡ cond b Set Invalid
+  answered : (b : Bool) → (cond b (started_with words names ids) no_state).answer ≡ cond b (Ok tt) (Err Invalid)
   unfolding started_with no_state
   answered true = refl
   answered false = refl

@@ -1,7 +1,7 @@
 -- The state that a new setting starts with. The paper: a new setting takes no old state; it starts with both service counts 0, a cleared
 -- session, RDI off and a full period to run; peer timers start at the hold time, the others at 0. Refusal 4 returns an all-zero state.
 -- Definitions and the statement only.
-use Rattle.std.specs.Prelude.{ℕ, ◌≡◌, cond, List, eqb, pos, replicate, set}
+use Rattle.std.specs.Prelude.{ℕ, ◌≡◌, cond, List, eqb, pos, replicate, set, Result, Ok, Err}
 use Rattle.base_laws.specs.Lists.{on_first}
 use Rattle.base_period.specs.Periods.{ticks_of, hold_of}
 use Rattle.state_settings.specs.Settings.{slots, Settings, settings_of, name_octets, set_words}
@@ -11,8 +11,8 @@ use Rattle.state_view.specs.State.{State, shown, run_words, loss_totals}
 use Rattle.state_view.specs.Changed.{next, place_of}
 use Rattle.state_view.specs.declared.StateArrays.{StateArrays}
 use Rattle.state_view.specs.WellFormed.{WellFormed}
-use Rattle.call_setting.specs.declared.SettingAnswer.{SettingAnswer}
-use Rattle.call_setting.specs.declared.SettingAnswer.TheVariants.{Invalid, Set}
+use Rattle.call_setting.specs.declared.SettingRefusal.{SettingRefusal}
+use Rattle.call_setting.specs.declared.SettingRefusal.TheVariants.{Invalid}
 use Rattle.call_setting.specs.declared.SettingTold.{SettingTold}
 use Rattle.call_setting.specs.Told.{setting_told}
 use Rattle.call_setting.specs.declared.Started.{Started}
@@ -54,8 +54,8 @@ zero_state = shown zero_arrays
 abbrev pub after_setting : Settings → State
 after_setting s = cond (valid s) (start_of s) zero_state
 
-abbrev pub answer_of : Settings → SettingAnswer
-answer_of s = cond (valid s) Set Invalid
+abbrev pub answer_of : Settings → Result Unit SettingRefusal
+answer_of s = cond (valid s) (Ok tt) (Err Invalid)
 
 -- ── in the arrays that are returned, each of them whole ──
 
@@ -72,10 +72,10 @@ start_arrays words names ids = record {
 }
 
 unfoldable pub started_with : List ℕ → List ℕ → List ℕ → Started
-started_with words names ids = record { answer = Set; state = start_arrays words names ids }
+started_with words names ids = record { answer = Ok tt; state = start_arrays words names ids }
 
 unfoldable pub no_state : Started
-no_state = record { answer = Invalid; state = zero_arrays }
+no_state = record { answer = Err Invalid; state = zero_arrays }
 
 -- from settings in their arrays: words, names, IDs
 unfoldable pub setting_of : List ℕ → List ℕ → List ℕ → Started
@@ -90,8 +90,8 @@ setting_numbers s = cond (valid s) (record { refusal = 0 }) (record { refusal = 
 abbrev pub box_of : Started → NewBox
 box_of s = record { refusal = (setting_told s.answer).refusal; state = s.state }
 
-abbrev pub answer_told : ℕ → SettingAnswer
-answer_told refusal = cond (eqb refusal 0) Set Invalid
+abbrev pub answer_told : ℕ → Result Unit SettingRefusal
+answer_told refusal = cond (eqb refusal 0) (Ok tt) (Err Invalid)
 
 -- a valid setting starts well formed; the all-zero state is not well formed; the answer, and the state that the returned arrays show
 -- (`state_view.shown`), are those of the setting (`call_setting.answer_of`, `call_setting.after_setting`)

@@ -1,9 +1,10 @@
 -- The paper's number for each answer on a new setting. Definitions only.
-use Rattle.call_setting.specs.declared.SettingAnswer.{SettingAnswer}
-use Rattle.call_setting.specs.declared.SettingAnswer.TheVariants.{Invalid, Set}
+use Rattle.std.specs.Prelude.{Result, Ok, Err}
+use Rattle.call_setting.specs.declared.SettingRefusal.{SettingRefusal}
+use Rattle.call_setting.specs.declared.SettingRefusal.TheVariants.{Invalid}
 use Rattle.call_setting.specs.declared.SettingTold.{SettingTold}
 
 -- refusal 4, or none
-unfoldable pub setting_told : SettingAnswer → SettingTold
-setting_told Invalid = record { refusal = 4 }
-setting_told Set = record { refusal = 0 }
+unfoldable pub setting_told : Result Unit SettingRefusal → SettingTold
+setting_told (Err Invalid) = record { refusal = 4 }
+setting_told (Ok u) = record { refusal = 0 }

@@ -16,15 +16,14 @@ use base_period::{hold_of, ticks_of};
 use state_settings::{COUNT, NAMES, Names, PEERS, PERIOD, SET, Set, Slots, is_valid};
 use state_view::{NEXT, RUN, StateArrays, TOTALS};
 
-// What a new setting is answered.
+// Why a setting is not taken.
 #[derive(Clone, Copy)]
-pub enum SettingAnswer {
+pub enum SettingRefusal {
     // Refusal 4: it breaks a rule on its values.
     Invalid,
-    Set,
 }
 
-// An answer in the paper's numbers: the refusal, or 0.
+// An answer in the paper's numbers: the refusal, or 0. A number and no enum: `call_setting.setting_numbers` states it.
 #[repr(C)]
 #[derive(Clone, Copy)]
 pub struct SettingTold {
@@ -32,23 +31,25 @@ pub struct SettingTold {
 }
 
 // An answer in the paper's numbers.
-pub fn tell(answer: SettingAnswer) -> SettingTold
+#[tactic(auto, unfolding(crate::specs::Told::setting_told))]
+pub fn tell(answer: Result<(), SettingRefusal>) -> SettingTold
     ensures { result ≡ setting_told answer }
 {
+    // by this name and no `From`: lemma `tell_one`, the edits and the pages cite it
     match answer {
-        SettingAnswer::Invalid => SettingTold { refusal: 4 },
-        SettingAnswer::Set => SettingTold { refusal: 0 },
+        Err(SettingRefusal::Invalid) => SettingTold { refusal: 4 },
+        Ok(()) => SettingTold { refusal: 0 },
     }
 }
 
 // What a new setting is answered, and the state that it returns.
 #[derive(Clone, Copy)]
 pub struct Started {
-    pub answer: SettingAnswer,
+    pub answer: Result<(), SettingRefusal>,
     pub state: StateArrays,
 }
 
-// The same in the paper's numbers: the refusal, or 0, and the state, all zeros beside 4.
+// The same in the paper's numbers: the refusal, or 0, and the state, all zeros beside 4. A number and no `Result`: C is given this struct.
 #[repr(C)]
 #[derive(Clone, Copy)]
 pub struct NewBox {
@@ -79,14 +80,11 @@ fn none() -> NewBox
 fn start_timers(timers: &mut [u32], count: u32, hold: u32)
     ensures { timers.new ≡ on_first (λ x. hold) count timers.old }
 {
-    let all = timers.len();
     let used = count as usize;
-    let mut i: usize = 0;
-    while i < all {
+    for (i, timer) in timers.iter_mut().enumerate() {
         if i < used {
-            timers[i] = hold;
+            *timer = hold;
         }
-        i += 1;
     }
 }
 
@@ -129,13 +127,14 @@ pub fn new_box(set: &Set, names: &Names, ids: &Slots) -> NewBox
 }
 
 // The answer that a number means.
-fn answer_of(refusal: u32) -> SettingAnswer
+fn answer_of(refusal: u32) -> Result<(), SettingRefusal>
     ensures { result ≡ answer_told refusal }
 {
+    // no `From`: `Result` and `u32` are the library's
     if refusal == 0 {
-        SettingAnswer::Set
+        Ok(())
     } else {
-        SettingAnswer::Invalid
+        Err(SettingRefusal::Invalid)
     }
 }
 

@@ -8,6 +8,7 @@ use native.Mathlib.Omega.{arith}
 use lib.Dec.{ltb, eqb}
 use lib.ListN.{length}
 use borrow.Author.Tests.{ltb-true, ltb-false, eqb-false}
+use Rattle.std.specs.Prelude.{Result, Ok, Err, Option, Some, None}
 use Rattle.base_laws.specs.Ended.{Ended, ended}
 use Rattle.base_laws.proofs.Ended.{buffer-is}
 use Rattle.base_laws.specs.Lists.{laid}
@@ -17,17 +18,17 @@ use Rattle.state_view.specs.WellFormed.{WellFormed, well_formed}
 use Rattle.state_view.proofs.Rules.{well_formed_is}
 use Rattle.message_ccm.specs.Continuity.{ccm_length}
 use Rattle.call_tick_ccm.specs.Ccm.{ccm_of}
-use Rattle.call_send_answer.specs.declared.TickAnswer.{TickAnswer}
-use Rattle.call_send_answer.specs.declared.TickAnswer.TheVariants.{NotWellFormed, NoRoom, Quiet, Sent}
+use Rattle.call_send_answer.specs.declared.SendRefusal.{SendRefusal}
+use Rattle.call_send_answer.specs.declared.SendRefusal.TheVariants.{NotWellFormed, NoRoom}
 use Rattle.call_tick.specs.Tick.{ticked_of, tick_of}
 use Rattle.call_tick.proofs.Ended.{at_2, at-quiet, at_3, at-sent}
 
 pub data Case (s : State) (buffer : List ℕ) : Type 0 where
-  bad : (WellFormed s → ⊥) → tick_of s buffer ≡ ended NotWellFormed s buffer → Case s buffer
-  goes_on : WellFormed s → 1 < s.next → tick_of s buffer ≡ ended Quiet (ticked_of s) buffer → Case s buffer
-  short : WellFormed s → s.next ≡ 1 → length buffer < 89 → tick_of s buffer ≡ ended NoRoom s buffer → Case s buffer
+  bad : (WellFormed s → ⊥) → tick_of s buffer ≡ ended (Err NotWellFormed) s buffer → Case s buffer
+  goes_on : WellFormed s → 1 < s.next → tick_of s buffer ≡ ended (Ok None) (ticked_of s) buffer → Case s buffer
+  short : WellFormed s → s.next ≡ 1 → length buffer < 89 → tick_of s buffer ≡ ended (Err NoRoom) s buffer → Case s buffer
   sends : WellFormed s → s.next ≡ 1 → 89 ≤ length buffer
-      → tick_of s buffer ≡ ended (Sent ccm_length) (ticked_of s) (laid 0 (ccm_of (ticked_of s)) buffer) → Case s buffer
+      → tick_of s buffer ≡ ended (Ok (Some ccm_length)) (ticked_of s) (laid 0 (ccm_of (ticked_of s)) buffer) → Case s buffer
 
 pub most : {n : ℕ} → n ≡ 1 → n ≤ 1
 most e = omega arith
@@ -62,19 +63,19 @@ cases s buffer = ⊎_elim good (λ f. bad (failed (well_formed_is.well_formed_is
         (known (ltb 1 s.next))
 
 -- a number for each answer, to tell them apart
-unfoldable pub numbered : TickAnswer → ℕ
-numbered NotWellFormed = 2
-numbered NoRoom = 3
-numbered Quiet = 0
-numbered (Sent n) = 1
+unfoldable pub numbered : Result (Option ℕ) SendRefusal → ℕ
+numbered (Err NotWellFormed) = 2
+numbered (Err NoRoom) = 3
+numbered (Ok None) = 0
+numbered (Ok (Some n)) = 1
 
 module _ (s : State) (buffer : List ℕ) where
-  abbrev o : Ended State TickAnswer
+  abbrev o : Ended State (Result (Option ℕ) SendRefusal)
   o = tick_of s buffer
 
   -- an outcome with another answer is none
-  not_it : {x : Ended State TickAnswer} {n : ℕ} → o ≡ x → numbered o.answer ≡ n → eqb (numbered x.answer) n ≡ false → ⊥
-  not_it {x} {n} e a f = eqb-false (numbered x.answer) n f (sym (ap (λ (t : Ended State TickAnswer). numbered t.answer) e) ∙ a)
+  not_it : {x : Ended State (Result (Option ℕ) SendRefusal)} {n : ℕ} → o ≡ x → numbered o.answer ≡ n → eqb (numbered x.answer) n ≡ false → ⊥
+  not_it {x} {n} e a f = eqb-false (numbered x.answer) n f (sym (ap (λ (t : Ended State (Result (Option ℕ) SendRefusal)). numbered t.answer) e) ∙ a)
 
   pub is_2 : Case s buffer → numbered o.answer ≡ 2 → WellFormed s → ⊥
   unfolding numbered

@@ -3,6 +3,7 @@ use Prim.Native.Nat.{ℕ, ◌≤◌}
 use mathlib.Core.Path.{◌≡◌, refl, sym, ap, ◌∙◌, subst}
 use mathlib.Core.List.{List}
 use lib.ListN.{length}
+use Rattle.std.specs.Prelude.{Result, Ok, Err, Option, Some, None}
 use Rattle.base_laws.specs.Ended.{Ended}
 use Rattle.base_laws.proofs.Ended.{answer-is, buffer-is, state-is}
 use Rattle.base_laws.proofs.Tests.{fails}
@@ -10,8 +11,8 @@ use Rattle.state_view.specs.State.{State}
 use Rattle.state_view.specs.WellFormed.{WellFormed}
 use Rattle.state_view.proofs.Rules.{well_formed_is}
 use Rattle.message_ccm.specs.Continuity.{ccm_length}
-use Rattle.call_send_answer.specs.declared.TickAnswer.{TickAnswer}
-use Rattle.call_send_answer.specs.declared.TickAnswer.TheVariants.{NotWellFormed, NoRoom, Quiet, Sent}
+use Rattle.call_send_answer.specs.declared.SendRefusal.{SendRefusal}
+use Rattle.call_send_answer.specs.declared.SendRefusal.TheVariants.{NotWellFormed, NoRoom}
 use Rattle.call_tick.specs.Tick.{ticked_of, tick_of, Ticks}
 use Rattle.call_send_answer.specs.Told.{tick_told}
 use Rattle.call_tick.proofs.Ended.{agree, at_2, at-quiet, at_3, at-sent}
@@ -20,7 +21,7 @@ use Rattle.call_tick.proofs.TickCases.{Case, bad, goes_on, short, sends, most, n
 use Rattle.call_tick.proofs.TickCases.{is-quiet, is_sent, writes}
 
 module _ (s : State) (buffer : List ℕ) where
-  abbrev o : Ended State TickAnswer
+  abbrev o : Ended State (Result (Option ℕ) SendRefusal)
   o = tick_of s buffer
 
   stays : Case s buffer → WellFormed s → WellFormed o.state
@@ -30,8 +31,8 @@ module _ (s : State) (buffer : List ℕ) where
   stays (sends v h k e) w = rw e (ticked_well s w)
 
   -- the refusal, by an equation for the whole outcome
-  refusal-of : {x : Ended State TickAnswer} → o ≡ x → (tick_told o.answer).refusal ≡ (tick_told x.answer).refusal
-  refusal-of e = ap (λ (t : Ended State TickAnswer). (tick_told t.answer).refusal) e
+  refusal-of : {x : Ended State (Result (Option ℕ) SendRefusal)} → o ≡ x → (tick_told o.answer).refusal ≡ (tick_told x.answer).refusal
+  refusal-of e = ap (λ (t : Ended State (Result (Option ℕ) SendRefusal)). (tick_told t.answer).refusal) e
 
   refused : Case s buffer → ((tick_told o.answer).refusal ≡ 0 → ⊥) → (o.state ≡ s) × (o.buffer ≡ buffer)
   unfolding tick_told
@@ -54,7 +55,7 @@ module _ (s : State) (buffer : List ℕ) where
   passes (short v h k e) r = absurd (not_zero (refusal-of e) r)
   passes (sends v h k e) r = state-is e
 
-  writes_none : Case s buffer → (o.answer ≡ Sent ccm_length → ⊥) → o.buffer ≡ buffer
+  writes_none : Case s buffer → (o.answer ≡ Ok (Some ccm_length) → ⊥) → o.buffer ≡ buffer
   writes_none (bad n e) a = buffer-is e
   writes_none (goes_on v h e) a = buffer-is e
   writes_none (short v h k e) a = buffer-is e
@@ -62,13 +63,13 @@ module _ (s : State) (buffer : List ℕ) where
 
   -- a part that neither lowering nor the next CCM touches
   untouched : {A : Type 0} (part : State → A) → part (ticked_of s) ≡ part s → Case s buffer → part o.state ≡ part s
-  untouched part h (bad n e) = ap (λ (t : Ended State TickAnswer). part t.state) e
-  untouched part h (goes_on v i e) = ap (λ (t : Ended State TickAnswer). part t.state) e ∙ h
-  untouched part h (short v i k e) = ap (λ (t : Ended State TickAnswer). part t.state) e
-  untouched part h (sends v i k e) = ap (λ (t : Ended State TickAnswer). part t.state) e ∙ h
+  untouched part h (bad n e) = ap (λ (t : Ended State (Result (Option ℕ) SendRefusal)). part t.state) e
+  untouched part h (goes_on v i e) = ap (λ (t : Ended State (Result (Option ℕ) SendRefusal)). part t.state) e ∙ h
+  untouched part h (short v i k e) = ap (λ (t : Ended State (Result (Option ℕ) SendRefusal)). part t.state) e
+  untouched part h (sends v i k e) = ap (λ (t : Ended State (Result (Option ℕ) SendRefusal)). part t.state) e ∙ h
 
 -- a tick has four answers and no other, so what holds of the four holds of each
-module _ (P : TickAnswer → Type 0) (p2 : P NotWellFormed) (quiet : P Quiet) (p3 : P NoRoom) (sent : P (Sent ccm_length)) (s : State)
+module _ (P : Result (Option ℕ) SendRefusal → Type 0) (p2 : P (Err NotWellFormed)) (quiet : P (Ok None)) (p3 : P (Err NoRoom)) (sent : P (Ok (Some ccm_length))) (s : State)
     (buffer : List ℕ) where
   holds : Case s buffer → P (tick_of s buffer).answer
   holds (bad n e) = subst P (sym (answer-is e)) p2

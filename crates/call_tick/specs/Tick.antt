@@ -1,6 +1,6 @@
 -- A tick. The paper, "A tick": it lowers every timer above 0 by one; every period's last tick sends a CCM; its RDI is set when, after this
 -- tick's lowering, any condition stands other than a peer's RDI. Refusals 2 and 3. Definitions and the statement only.
-use Rattle.std.specs.Prelude.{ℕ, ◌-◌, ◌≤◌, ◌<◌, ◌≡◌, List, [], ◌∷◌, Bool, cond, not, ◌↔◌, ltb, length}
+use Rattle.std.specs.Prelude.{ℕ, ◌-◌, ◌≤◌, ◌<◌, ◌≡◌, List, [], ◌∷◌, Bool, cond, not, ◌↔◌, ltb, length, Result, Ok, Err, Option, Some, None}
 use Rattle.base_laws.specs.Tests.{choose}
 use Rattle.base_laws.specs.Lists.{laid}
 use Rattle.base_laws.specs.Ended.{Ended, ended}
@@ -13,8 +13,8 @@ use Rattle.message_parts.specs.Buffer.{tell_written}
 use Rattle.message_ccm.specs.Continuity.{ccm_length}
 use Rattle.call_send_answer.specs.Told.{tick_told}
 use Rattle.call_tick_ccm.specs.Ccm.{ccm_of}
-use Rattle.call_send_answer.specs.declared.TickAnswer.{TickAnswer}
-use Rattle.call_send_answer.specs.declared.TickAnswer.TheVariants.{NotWellFormed, NoRoom, Quiet, Sent}
+use Rattle.call_send_answer.specs.declared.SendRefusal.{SendRefusal}
+use Rattle.call_send_answer.specs.declared.SendRefusal.TheVariants.{NotWellFormed, NoRoom}
 
 -- ── the state after ──
 
@@ -33,14 +33,14 @@ ticked_of s = put next (next_of s) (lowered s)
 -- ── the whole outcome ──
 
 -- refusal 2; nothing to send; refusal 3, and the tick has not passed; a CCM of the state after, laid over the buffer's first octets
-unfoldable pub tick_of : State → List ℕ → Ended State TickAnswer
+unfoldable pub tick_of : State → List ℕ → Ended State (Result (Option ℕ) SendRefusal)
 tick_of s buffer =
     choose (
-    (not (well_formed s), ended NotWellFormed s buffer)
-    ∷ (ticks_left s, ended Quiet (ticked_of s) buffer)
-    ∷ (ltb (length buffer) ccm_length, ended NoRoom s buffer)
+    (not (well_formed s), ended (Err NotWellFormed) s buffer)
+    ∷ (ticks_left s, ended (Ok None) (ticked_of s) buffer)
+    ∷ (ltb (length buffer) ccm_length, ended (Err NoRoom) s buffer)
     ∷ [])
-    (ended (Sent ccm_length) (ticked_of s) (laid 0 (ccm_of (ticked_of s)) buffer))
+    (ended (Ok (Some ccm_length)) (ticked_of s) (laid 0 (ccm_of (ticked_of s)) buffer))
 
 -- ── in the paper's numbers ──
 
@@ -60,11 +60,11 @@ pub record Ticks : Type 0 where
   -- a well-formed state stays so
   pub stays : (s : State) (buffer : List ℕ) → WellFormed s → WellFormed (tick_of s buffer).state
   -- each answer exactly where its line of the paper holds
-  pub refuses_2 : (s : State) (buffer : List ℕ) → ((tick_of s buffer).answer ≡ NotWellFormed) ↔ (WellFormed s → ⊥)
-  pub refuses_3 : (s : State) (buffer : List ℕ) → ((tick_of s buffer).answer ≡ NoRoom) ↔ (WellFormed s × (s.next ≡ 1) × (length buffer < 89))
-  pub quiet : (s : State) (buffer : List ℕ) → ((tick_of s buffer).answer ≡ Quiet) ↔ (WellFormed s × (1 < s.next))
+  pub refuses_2 : (s : State) (buffer : List ℕ) → ((tick_of s buffer).answer ≡ Err NotWellFormed) ↔ (WellFormed s → ⊥)
+  pub refuses_3 : (s : State) (buffer : List ℕ) → ((tick_of s buffer).answer ≡ Err NoRoom) ↔ (WellFormed s × (s.next ≡ 1) × (length buffer < 89))
+  pub quiet : (s : State) (buffer : List ℕ) → ((tick_of s buffer).answer ≡ Ok None) ↔ (WellFormed s × (1 < s.next))
   pub sends : (s : State) (buffer : List ℕ)
-      → ((tick_of s buffer).answer ≡ Sent ccm_length) ↔ (WellFormed s × (s.next ≡ 1) × (89 ≤ length buffer))
+      → ((tick_of s buffer).answer ≡ Ok (Some ccm_length)) ↔ (WellFormed s × (s.next ≡ 1) × (89 ≤ length buffer))
   -- a refused tick leaves state and buffer as they were, whatever they held
   pub refused : (s : State) (buffer : List ℕ) → ((tick_told (tick_of s buffer).answer).refusal ≡ 0 → ⊥) → ((tick_of s buffer).state ≡ s) × ((tick_of s buffer).buffer ≡ buffer)
   -- a buffer of 89 octets is never refused by a well-formed state
@@ -72,9 +72,9 @@ pub record Ticks : Type 0 where
   -- a tick that is not refused passes
   pub passes : (s : State) (buffer : List ℕ) → (tick_told (tick_of s buffer).answer).refusal ≡ 0 → (tick_of s buffer).state ≡ ticked_of s
   -- what is sent is the CCM of the state after, and octets behind it stay; where none is sent the buffer stays
-  pub writes : (s : State) (buffer : List ℕ) → (tick_of s buffer).answer ≡ Sent ccm_length
+  pub writes : (s : State) (buffer : List ℕ) → (tick_of s buffer).answer ≡ Ok (Some ccm_length)
       → (tick_of s buffer).buffer ≡ laid 0 (ccm_of (ticked_of s)) buffer
-  pub writes_none : (s : State) (buffer : List ℕ) → ((tick_of s buffer).answer ≡ Sent ccm_length → ⊥) → (tick_of s buffer).buffer ≡ buffer
+  pub writes_none : (s : State) (buffer : List ℕ) → ((tick_of s buffer).answer ≡ Ok (Some ccm_length) → ⊥) → (tick_of s buffer).buffer ≡ buffer
   -- no tick changes settings, peers' RDI, service counts or session
   pub settings_stay : (s : State) (buffer : List ℕ) → (tick_of s buffer).state.settings ≡ s.settings
   pub rdi_stays : (s : State) (buffer : List ℕ) → (tick_of s buffer).state.rdi ≡ s.rdi

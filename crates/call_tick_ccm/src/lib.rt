@@ -4,34 +4,26 @@
 #![tactic(auto)]
 
 ghost use Rattle.std.specs.Prelude.{◌≡◌, length};
-ghost use Rattle.state_view.specs.State.{before};
+ghost use Rattle.state_view.specs.State.{state_in};
 ghost use Rattle.message_parts.specs.Buffer.{written_of, buffer_of, written_told, written_numbers};
 ghost use Rattle.message_ccm.specs.Continuity.{ccm_length};
 ghost use Rattle.call_tick_ccm.specs.Ccm.{ccm_of};
 
 use message_ccm::{CcmValues, write_ccm};
-use message_parts::parts::Written;
-use state_settings::{LEVEL, MEP, Names, PERIOD, Set, Slots};
+use message_parts::parts::WriteRefusal;
+use state_settings::{LEVEL, LentSettings, MEP, PERIOD};
 use state_standing::{any_stands, flag_of};
-use state_view::{Run, Totals};
+use state_view::LentState;
 
 // Writes the CCM of a state, 89 octets, or gives refusal 3.
-pub fn write_own_ccm(
-    set: &Set,
-    names: &Names,
-    ids: &Slots,
-    timers: &Slots,
-    rdi: &Slots,
-    run: &Run,
-    totals: &Totals,
-    out: &mut [u8],
-) -> Written
-    ensures value { (result ≡ written_of (ccm_of (before set names ids timers.now rdi.now run.now totals.now)) out.old)
-        × (written_told result ≡ written_numbers (ccm_of (before set names ids timers.now rdi.now run.now totals.now)) out.old) }
-    ensures out_after { (out.new ≡ buffer_of (ccm_of (before set names ids timers.now rdi.now run.now totals.now)) out.old)
-        × (length (ccm_of (before set names ids timers.now rdi.now run.now totals.now)) ≡ ccm_length) }
+pub fn write_own_ccm(state: LentState<'_>, out: &mut [u8]) -> Result<usize, WriteRefusal>
+    ensures value { (result ≡ written_of (ccm_of (state_in state)) out.old)
+        × (written_told result ≡ written_numbers (ccm_of (state_in state)) out.old) }
+    ensures out_after { (out.new ≡ buffer_of (ccm_of (state_in state)) out.old)
+        × (length (ccm_of (state_in state)) ≡ ccm_length) }
 {
-    let stands = any_stands(set, names, ids, timers, rdi, run, totals);
+    let stands = any_stands(state);
+    let LentSettings { set, names, .. } = state.settings;
     let ccm = CcmValues {
         level: set[LEVEL],
         rdi: flag_of(stands),

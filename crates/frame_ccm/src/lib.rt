@@ -11,9 +11,9 @@ use base_numbers::read_big;
 use frame_head::pdu_of;
 use frame_message::good_opcode;
 
-// A CCM's fields beside its MEG ID; the counts are TxFCf, RxFCb and TxFCb.
+// A CCM's fields beside its MEG ID; the counts are TxFCf, RxFCb and TxFCb. RDI is a number and no bool: `frame_ccm.ccm_in` has it so.
 #[repr(C)]
-#[derive(Clone, Copy)]
+#[derive(Clone, Copy, Default)]
 pub struct CcmFields {
     pub sequence: u32,
     pub mep: u32,
@@ -54,15 +54,7 @@ pub fn ccm_fields(frame: &[u8]) -> CcmFields
     ensures { result ≡ ccm_of frame.now }
 {
     if good_opcode(frame) != 1 {
-        return CcmFields {
-            sequence: 0,
-            mep: 0,
-            txfcf: 0,
-            rxfcb: 0,
-            txfcb: 0,
-            period: 0,
-            rdi: 0,
-        };
+        return CcmFields::default();
     }
     ccm_in(pdu_of(frame))
 }

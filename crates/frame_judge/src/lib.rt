@@ -10,36 +10,29 @@ ghost use Rattle.frame_judge.specs.Judge.{judge_by, judge_pdu};
 use frame_opcodes::{Rule, rule_of};
 use frame_reader_answer::Bad;
 
-// What is before the TLVs: a reason, or the place of the PDU where they start.
-#[derive(Clone, Copy)]
-pub enum Head {
-    Bad(Bad),
-    Tlvs(usize),
-}
-
-// What is before the TLVs of a PDU, by a row of the table: D1, D3, D4, or where they start, by the frame's own offset.
-pub fn judge_row(pdu: &[u8], rule: Rule) -> Head
+// Where the TLVs of a PDU start, by a row of the table and the frame's own offset; D1, D3 or D4 where they do not.
+pub fn judge_row(pdu: &[u8], rule: Rule) -> Result<usize, Bad>
     ensures { result ≡ judge_by rule pdu.now }
 {
     if pdu.len() < 4 {
-        return Head::Bad(Bad::Short);
+        return Err(Bad::Short);
     }
     if !rule.known {
-        return Head::Bad(Bad::Opcode);
+        return Err(Bad::Opcode);
     }
     let offset = pdu[3] as usize;
     if offset < rule.least {
-        return Head::Bad(Bad::Offset);
+        return Err(Bad::Offset);
     }
-    Head::Tlvs(4 + offset)
+    Ok(4 + offset)
 }
 
 // The same by the row of the PDU's own opcode.
-pub fn judge_pdu(pdu: &[u8]) -> Head
+pub fn judge_pdu(pdu: &[u8]) -> Result<usize, Bad>
     ensures { result ≡ judge_pdu pdu.now }
 {
     if pdu.len() < 2 {
-        return Head::Bad(Bad::Short);
+        return Err(Bad::Short);
     }
     judge_row(pdu, rule_of(pdu[1]))
 }

@@ -1,5 +1,6 @@
 // The fields of loopback messages and of alarms: the transaction, the period.
-// Each is 0 where the frame is bad or another message; `frame_message::message_answer` says which. No function needs anything.
+// Each is 0 where the frame is bad or another message; `frame_message::message_answer` says which. No function needs anything. The two
+// share a test of two opcodes and nothing else, so each stands by itself. 0 and no `Option`: so `transaction_of` and `alarm_of` are defined.
 #![tactic(auto)]
 
 ghost use Rattle.std.specs.Prelude.{◌≡◌};

@@ -1,6 +1,6 @@
 // The fields of the messages that measure: the counts of LMM and LMR, the stamps of DMM and DMR.
 // All are 0 where the frame is bad or another message; `frame_message::message_answer` says which. No public function needs
-// anything.
+// anything. The two readers differ in opcodes, fields and places: one over a reader that it is passed would be longer than both.
 #![tactic(auto)]
 
 ghost use Rattle.std.specs.Prelude.{◌≡◌, ◌≤◌, length};
@@ -13,7 +13,7 @@ use frame_message::good_opcode;
 
 // The counts of an LMM or LMR: TxFCf, RxFCf and TxFCb.
 #[repr(C)]
-#[derive(Clone, Copy)]
+#[derive(Clone, Copy, Default)]
 pub struct LossFields {
     pub txfcf: u32,
     pub rxfcf: u32,
@@ -22,7 +22,7 @@ pub struct LossFields {
 
 // The stamps of a DMM or DMR: TxTimeStampf, RxTimeStampf and TxTimeStampb.
 #[repr(C)]
-#[derive(Clone, Copy)]
+#[derive(Clone, Copy, Default)]
 pub struct DelayFields {
     pub txtimestampf: Stamp,
     pub rxtimestampf: Stamp,
@@ -68,11 +68,7 @@ pub fn loss_fields(frame: &[u8]) -> LossFields
 {
     let opcode = good_opcode(frame);
     if (opcode != 43) & (opcode != 42) {
-        return LossFields {
-            txfcf: 0,
-            rxfcf: 0,
-            txfcb: 0,
-        };
+        return LossFields::default();
     }
     loss_in(pdu_of(frame))
 }
@@ -83,15 +79,7 @@ pub fn delay_fields(frame: &[u8]) -> DelayFields
 {
     let opcode = good_opcode(frame);
     if (opcode != 47) & (opcode != 46) {
-        let zero = Stamp {
-            seconds: 0,
-            nanoseconds: 0,
-        };
-        return DelayFields {
-            txtimestampf: zero,
-            rxtimestampf: zero,
-            txtimestampb: zero,
-        };
+        return DelayFields::default();
     }
     delay_in(pdu_of(frame))
 }

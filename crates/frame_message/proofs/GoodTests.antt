@@ -8,15 +8,14 @@ use native.Mathlib.Omega.{arith}
 use lib.Dec.{ltb, leb}
 use lib.ListN.{length}
 use borrow.Author.Tests.{not-false, le-leb, leb-true, eq-eqb, eqb-true, le-ltb, ltb-true, ltb-false}
+use Rattle.std.specs.Prelude.{Result, Ok, Err}
+use Rattle.frame_message_answer.specs.declared.NoMessage.{NoMessage}
 use Rattle.base_laws.specs.Tests.{choose}
 use Rattle.base_laws.proofs.Tests.{known as if-known, both_true}
 use Rattle.frame_opcodes.specs.Opcodes.{rule_of}
 use Rattle.frame_reader_answer.specs.declared.Bad.{Bad}
 use Rattle.frame_tlvs.specs.declared.Place.{Place}
 use Rattle.frame_tlvs.specs.declared.Place.TheVariants.{End, Found, Cut}
-use Rattle.frame_reader_answer.specs.declared.TlvAnswer.{TlvAnswer}
-use Rattle.frame_reader_answer.specs.declared.TlvAnswer.TheVariants as tlv
-use Rattle.frame_message_answer.specs.declared.MessageAnswer.{MessageAnswer}
 use Rattle.frame_message.specs.Message.{unless_bad}
 use Rattle.frame_head.specs.Head.{ether_type_of, is_oam, length_good, pdu_of, opcode_of, offset_of, start_of}
 use Rattle.frame_tlvs.specs.Tlvs.{walk_from, is_cut}
@@ -97,7 +96,7 @@ pub fixed : (f : List ℕ) → Good f → 4 + (rule_of (opcode_of (pdu_of f))).l
 fixed f g = omega (arith, g.headed.offset, begins (start_of (pdu_of f)) (pdu_of f) g.ends)
 
 -- what the reader lets through is told by what stands behind it
-pub unless_good : (a : TlvAnswer) (m : MessageAnswer) → is_bad a ≡ false → unless_bad a m ≡ m
-unless_good (tlv.Bad b) m e = absurd (false≢true (sym e))
-unless_good tlv.NoSuch m e = refl
-unless_good tlv.Value m e = refl
+pub unless_good : (a : Result Bool Bad) (m : Result ℕ NoMessage) → is_bad a ≡ false → unless_bad a m ≡ m
+unless_good (Err b) m e = absurd (false≢true (sym e))
+unless_good (Ok false) m e = refl
+unless_good (Ok true) m e = refl

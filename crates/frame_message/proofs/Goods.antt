@@ -8,12 +8,14 @@ use native.Mathlib.Nat.{add-zero, add_assoc}
 use lib.Dec.{ltb, eqb}
 use lib.ListN.{length, drop}
 use lib.Seq.{drop-drop}
+use Rattle.std.specs.Prelude.{Result, Option}
+use Rattle.frame_seek.specs.declared.Span.{Span}
+use Rattle.frame_reader_answer.specs.declared.Bad.{Bad}
 use Rattle.base_laws.specs.Lists.{part}
 use Rattle.base_laws.proofs.Parts.{part-drop}
 use Rattle.base_laws.proofs.Tests.{known as if-known}
 use Rattle.frame_tlvs.specs.declared.Place.{Place}
 use Rattle.frame_tlvs.specs.declared.Place.TheVariants.{End, Found, Cut}
-use Rattle.frame_seek.specs.declared.Seek.{Seek}
 use Rattle.frame_head.specs.Head.{head_length, pdu_of, start_of}
 use Rattle.frame_tlvs.specs.Tlvs.{length_of, walk, walk_from}
 use Rattle.frame_seek.specs.Seek.{whole, in_frame}
@@ -75,7 +77,7 @@ value_shifted f k (Found t m) (End e) = refl
 value_shifted f k (Found t m) (Cut e) = refl
 
 -- what the TLVs alone say
-abbrev seen : ℕ → List ℕ → Seek
+abbrev seen : ℕ → List ℕ → Result (Option Span) Bad
 seen kind xs = whole (walk 0 0 xs 0) (walk kind 0 xs 0)
 
 module _ (f : List ℕ) (h : Headed f) (kind : ℕ) where

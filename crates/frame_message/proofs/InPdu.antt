@@ -1,19 +1,17 @@
 -- Which message a PDU is, case by case; and that a frame is the message that its PDU is. Assumes nothing.
 use Prim.Native.Nat.{ℕ}
 use mathlib.Core.Path.{◌≡◌, refl, ap, ◌∙◌}
-use mathlib.Core.Bool.{true, false}
+use mathlib.Core.Bool.{Bool, true, false}
 use mathlib.Core.List.{List}
 use borrow.Author.Tests.{not-true, not-false}
+use Rattle.std.specs.Prelude.{Result, Ok, Err, Option, Some, None}
+use Rattle.frame_seek.specs.declared.Span.{Span}
+use Rattle.frame_message_answer.specs.declared.NoMessage.{NoMessage}
+use Rattle.frame_message_answer.specs.declared.NoMessage.TheVariants.{Bad}
 use Rattle.frame_reader_answer.specs.declared.Bad.{Bad as Reason}
 use Rattle.frame_reader_answer.specs.declared.Bad.TheVariants.{Length, Opcode, CutOff}
-use Rattle.frame_reader_answer.specs.declared.TlvAnswer.{TlvAnswer}
-use Rattle.frame_message_answer.specs.declared.MessageAnswer.{MessageAnswer}
-use Rattle.frame_message_answer.specs.declared.MessageAnswer.TheVariants.{Bad}
-use Rattle.frame_judge.specs.declared.Head.TheVariants as head
 use Rattle.frame_tlvs.specs.declared.Place.{Place}
 use Rattle.frame_tlvs.specs.declared.Place.TheVariants.{End, Found, Cut}
-use Rattle.frame_seek.specs.declared.Seek.{Seek}
-use Rattle.frame_seek.specs.declared.Seek.TheVariants as seek
 use Rattle.frame_head.specs.Head.{is_oam, length_good, pdu_of, opcode_of, flags_of}
 use Rattle.frame_tlvs.specs.Tlvs.{walk_from, is_cut, tlvs_whole}
 use Rattle.frame_judge.specs.Judge.{judge_pdu}
@@ -25,21 +23,21 @@ use Rattle.frame_message.specs.Message.{judged_of, unless_bad, message_in, messa
 -- ── a PDU ──
 
 -- what a walk for type 0 gives is no reason
-passes : (w : Place) (m : MessageAnswer) → unless_bad (answer_at (wanted w)) m ≡ m
+passes : (w : Place) (m : Result ℕ NoMessage) → unless_bad (answer_at (Ok (wanted w))) m ≡ m
 passes (Found start len) m = refl
 passes (End at) m = refl
 passes (Cut at) m = refl
 
 module _ (p : List ℕ) where
-  abbrev by : Seek → MessageAnswer
+  abbrev by : Result (Option Span) Reason → Result ℕ NoMessage
   by s = unless_bad (answer_at s) (judged_of (opcode_of p) (flags_of p))
 
-  pub bad-head : (b : Reason) → judge_pdu p ≡ head.Bad b → message_in p ≡ Bad b
+  pub bad-head : (b : Reason) → judge_pdu p ≡ Err b → message_in p ≡ Err (Bad b)
   unfolding message_in
   bad-head b e = ap by (in_bad p 0 b e)
 
-  module _ (start : ℕ) (e : judge_pdu p ≡ head.Tlvs start) where
-    pub cut_off : tlvs_whole start p ≡ false → message_in p ≡ Bad CutOff
+  module _ (start : ℕ) (e : judge_pdu p ≡ Ok start) where
+    pub cut_off : tlvs_whole start p ≡ false → message_in p ≡ Err (Bad CutOff)
     unfolding message_in
     cut_off h = ap by (in_tlvs p 0 start e) ∙ rw (not-false (is_cut (walk_from 0 start p)) h)
 
@@ -50,23 +48,23 @@ module _ (p : List ℕ) where
 -- ── a frame ──
 
 -- where the value stands is not told
-placeless : (s : Seek) → answer_at (in_frame s) ≡ answer_at s
-placeless (seek.Value start len) = refl
-placeless seek.NoSuch = refl
-placeless (seek.Bad b) = refl
+placeless : (s : Result (Option Span) Reason) → answer_at (in_frame s) ≡ answer_at s
+placeless (Ok (Some value)) = refl
+placeless (Ok None) = refl
+placeless (Err b) = refl
 
 module _ (f : List ℕ) where
-  abbrev told : TlvAnswer → MessageAnswer
+  abbrev told : Result Bool Reason → Result ℕ NoMessage
   told a = unless_bad a (judged_of (opcode_of (pdu_of f)) (flags_of (pdu_of f)))
 
-  pub frame-length : length_good f ≡ false → message_of f ≡ Bad Length
+  pub frame-length : length_good f ≡ false → message_of f ≡ Err (Bad Length)
   unfolding message_of answer_of
-  frame-length h = ap (λ (s : Seek). told (answer_at s)) (of_length f 0 h)
+  frame-length h = ap (λ (s : Result (Option Span) Reason). told (answer_at s)) (of_length f 0 h)
 
   module _ (good : length_good f ≡ true) where
-    pub frame-service : is_oam f ≡ false → message_of f ≡ Bad Opcode
+    pub frame-service : is_oam f ≡ false → message_of f ≡ Err (Bad Opcode)
     unfolding message_of answer_of
-    frame-service n = ap (λ (s : Seek). told (answer_at s)) (of-service f 0 good n)
+    frame-service n = ap (λ (s : Result (Option Span) Reason). told (answer_at s)) (of-service f 0 good n)
 
     pub frame-pdu : is_oam f ≡ true → message_of f ≡ message_in (pdu_of f)
     unfolding message_of answer_of message_in

@@ -5,19 +5,19 @@ use mathlib.Core.Bool.{Bool, true, false, not}
 use mathlib.Core.List.{List, [], ◌∷◌}
 use mathlib.Core.Logic.{⊎_elim}
 use borrow.Author.Tests.{not-true}
+use Rattle.std.specs.Prelude.{Result, Ok, Err}
+use Rattle.frame_message_answer.specs.declared.NoMessage.{NoMessage}
+use Rattle.frame_reader_answer.specs.declared.Bad.{Bad}
 use Rattle.base_laws.specs.Tests.{choose}
 use Rattle.base_laws.proofs.Tests.{known as if-known}
 use Rattle.frame_opcodes.specs.Opcodes.{rule_of}
 use Rattle.frame_reader_answer.specs.declared.Bad.TheVariants.{Length, Short, Opcode, Offset, CutOff}
-use Rattle.frame_reader_answer.specs.declared.TlvAnswer.{TlvAnswer}
-use Rattle.frame_reader_answer.specs.declared.TlvAnswer.TheVariants as tlv
 use Rattle.frame_reader_answer.specs.declared.TlvTold.{TlvTold}
 use Rattle.frame_head.specs.Head.{pdu_of, opcode_of, flags_of}
 use Rattle.frame_reader.specs.Reader.{answer_of}
 use Rattle.frame_reader_answer.specs.Told.{bad_of, tlv_told}
 use Rattle.frame_reader.specs.Numbers as Reader
 use Rattle.frame_reader.proofs.Numbers.{agree as reader-agree}
-use Rattle.frame_message_answer.specs.declared.MessageAnswer.{MessageAnswer}
 use Rattle.frame_message_answer.specs.declared.MessageTold.{MessageTold}
 use Rattle.frame_message.specs.Good.{Good, is_bad}
 use Rattle.frame_message.specs.Message.{period_code, code_good, judged_of, unless_bad, message_of}
@@ -28,7 +28,7 @@ use Rattle.frame_message.proofs.Goods.{good_frames}
 -- ── what is told ──
 
 -- of a message that the reader lets through
-judged_told : (op flags : ℕ) → message_told (judged_of op flags) ≡ behind (tlv_told tlv.NoSuch) op flags
+judged_told : (op flags : ℕ) → message_told (judged_of op flags) ≡ behind (tlv_told (Ok false)) op flags
 unfolding message_told judged_of tlv_told choose
 judged_told op flags =
     ⊎_elim
@@ -36,15 +36,15 @@ judged_told op flags =
     (λ (t : code_good (rule_of op) (period_code flags) ≡ false). rw t)
     (if-known (code_good (rule_of op) (period_code flags)))
 
-tells : (a : TlvAnswer) (op flags : ℕ) → message_told (unless_bad a (judged_of op flags)) ≡ behind (tlv_told a) op flags
+tells : (a : Result Bool Bad) (op flags : ℕ) → message_told (unless_bad a (judged_of op flags)) ≡ behind (tlv_told a) op flags
 unfolding message_told tlv_told bad_of choose
-tells tlv.NoSuch op flags = judged_told op flags
-tells tlv.Value op flags = judged_told op flags
-tells (tlv.Bad Length) op flags = refl
-tells (tlv.Bad Short) op flags = refl
-tells (tlv.Bad Opcode) op flags = refl
-tells (tlv.Bad Offset) op flags = refl
-tells (tlv.Bad CutOff) op flags = refl
+tells (Ok false) op flags = judged_told op flags
+tells (Ok true) op flags = judged_told op flags
+tells (Err Length) op flags = refl
+tells (Err Short) op flags = refl
+tells (Err Opcode) op flags = refl
+tells (Err Offset) op flags = refl
+tells (Err CutOff) op flags = refl
 
 pub agree : (f : List ℕ) → message_told (message_of f) ≡ message_numbers f
 unfolding message_of
@@ -53,20 +53,20 @@ agree f =
     ∙ ap (λ (t : TlvTold). behind t (opcode_of (pdu_of f)) (flags_of (pdu_of f))) (reader-agree f 0)
 
 -- an answer that is the definition's tells the chain's numbers
-pub numbered : (f : List ℕ) (r : MessageAnswer) → r ≡ message_of f → (r ≡ message_of f) × (message_told r ≡ message_numbers f)
+pub numbered : (f : List ℕ) (r : Result ℕ NoMessage) → r ≡ message_of f → (r ≡ message_of f) × (message_told r ≡ message_numbers f)
 numbered f r e = (e, ap message_told e ∙ agree f)
 
 -- ── the opcode that is told ──
 
-good-told : (a : TlvAnswer) → is_good (tlv_told a) ≡ not (is_bad a)
+good-told : (a : Result Bool Bad) → is_good (tlv_told a) ≡ not (is_bad a)
 unfolding tlv_told bad_of
-good-told tlv.NoSuch = refl
-good-told tlv.Value = refl
-good-told (tlv.Bad Length) = refl
-good-told (tlv.Bad Short) = refl
-good-told (tlv.Bad Opcode) = refl
-good-told (tlv.Bad Offset) = refl
-good-told (tlv.Bad CutOff) = refl
+good-told (Ok false) = refl
+good-told (Ok true) = refl
+good-told (Err Length) = refl
+good-told (Err Short) = refl
+good-told (Err Opcode) = refl
+good-told (Err Offset) = refl
+good-told (Err CutOff) = refl
 
 -- no reason is told exactly of a good frame
 good-is : (f : List ℕ) → is_good (Reader.tlv_numbers f 0) ≡ not (is_bad (answer_of f 0))

@@ -1,9 +1,8 @@
 -- A good frame: what the reader tests of one, in full. The paper, "What is in a PDU": it tests only 1, D1, D3, D4 and D5. Definitions and
 -- the statement only.
-use Rattle.std.specs.Prelude.{ℕ, ◌+◌, ◌≤◌, ◌<◌, ◌≡◌, Bool, true, false, List, ◌↔◌, length, drop}
+use Rattle.std.specs.Prelude.{ℕ, ◌+◌, ◌≤◌, ◌<◌, ◌≡◌, Bool, true, false, List, ◌↔◌, length, drop, Result, Ok, Err}
+use Rattle.frame_reader_answer.specs.declared.Bad.{Bad}
 use Rattle.frame_opcodes.specs.Opcodes.{rule_of}
-use Rattle.frame_reader_answer.specs.declared.TlvAnswer.{TlvAnswer}
-use Rattle.frame_reader_answer.specs.declared.TlvAnswer.TheVariants as answer
 use Rattle.frame_head.specs.Head.{ether_type_of, pdu_of, opcode_of, offset_of, start_of}
 use Rattle.frame_tlvs.specs.Tlvs.{walk_from, is_cut}
 use Rattle.frame_reader.specs.Reader.{answer_of, value_of}
@@ -23,10 +22,10 @@ pub record Good (f : List ℕ) : Type 0 where
   pub ends : is_cut (walk_from 0 (start_of (pdu_of f)) (pdu_of f)) ≡ false
 
 -- the reader gives a reason
-abbrev pub is_bad : TlvAnswer → Bool
-is_bad (answer.Bad b) = true
-is_bad answer.NoSuch = false
-is_bad answer.Value = false
+abbrev pub is_bad : Result Bool Bad → Bool
+is_bad (Err b) = true
+is_bad (Ok false) = false
+is_bad (Ok true) = false
 
 -- the octets from the TLVs on, by the frame's own offset
 abbrev pub tlvs_of : List ℕ → List ℕ

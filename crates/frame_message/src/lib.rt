@@ -12,8 +12,8 @@ ghost use Rattle.frame_message_answer.specs.Told.{message_told};
 
 use base_bits::period_code_of;
 use frame_head::{is_oam, length_good, pdu_of};
-use frame_judge::{Head, judge_row};
-use frame_message_answer::{MessageAnswer, tell};
+use frame_judge::judge_row;
+use frame_message_answer::{NoMessage, tell};
 use frame_opcodes::{Rule, rule_of};
 use frame_reader_answer::Bad;
 use frame_tlvs::tlvs_whole;
@@ -26,42 +26,37 @@ pub fn code_good(rule: Rule, code: u32) -> bool
 }
 
 // Which message a PDU is. The row of its opcode is found once.
-fn message_in(pdu: &[u8]) -> MessageAnswer
+fn message_in(pdu: &[u8]) -> Result<u8, NoMessage>
     ensures { result ≡ message_in pdu.now }
 {
     if pdu.len() < 4 {
-        return MessageAnswer::Bad(Bad::Short);
+        return Err(NoMessage::Bad(Bad::Short));
     }
     let rule = rule_of(pdu[1]);
-    let start = match judge_row(pdu, rule) {
-        Head::Bad(b) => {
-            return MessageAnswer::Bad(b);
-        }
-        Head::Tlvs(start) => start,
-    };
+    let start = judge_row(pdu, rule)?;
     if !tlvs_whole(pdu, start) {
-        return MessageAnswer::Bad(Bad::CutOff);
+        return Err(NoMessage::Bad(Bad::CutOff));
     }
     if !code_good(rule, period_code_of(pdu[2])) {
-        return MessageAnswer::PeriodCode;
+        return Err(NoMessage::PeriodCode);
     }
-    MessageAnswer::Message(pdu[1])
+    Ok(pdu[1])
 }
 
-// Which message a frame is: a reason, D7, or its opcode.
-pub fn message_answer(frame: &[u8]) -> MessageAnswer
+// Which message a frame is, by its opcode; a reason or D7 where it is none.
+pub fn message_answer(frame: &[u8]) -> Result<u8, NoMessage>
     ensures { (result ≡ message_of frame.now) × (message_told result ≡ message_numbers frame.now) }
 {
     if !length_good(frame) {
-        return MessageAnswer::Bad(Bad::Length);
+        return Err(NoMessage::Bad(Bad::Length));
     }
     if !is_oam(frame) {
-        return MessageAnswer::Bad(Bad::Opcode);
+        return Err(NoMessage::Bad(Bad::Opcode));
     }
     message_in(pdu_of(frame))
 }
 
-// The opcode of a good frame; 0 of a bad one.
+// The opcode of a good frame; 0 of a bad one, and no `Option`: so `frame_message.good_opcode` has it, and no message has opcode 0.
 pub fn good_opcode(frame: &[u8]) -> u32
     ensures { result ≡ good_opcode frame.now }
 {

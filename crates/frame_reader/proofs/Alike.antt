@@ -15,6 +15,7 @@ use Rattle.frame_reader_answer.specs.declared.Bad.{Bad}
 use Rattle.frame_tlvs.specs.declared.Place.{Place}
 use Rattle.frame_tlvs.specs.declared.Place.TheVariants.{End, Found, Cut}
 use Rattle.frame_head.specs.Head.{pdu_of, start_of}
+use Rattle.std.specs.Prelude.{Ok}
 use Rattle.frame_tlvs.specs.Tlvs.{length_of, walk, walk_from}
 use Rattle.frame_seek.specs.Seek.{whole, wanted, in_frame}
 use Rattle.frame_reader.specs.Reader.{part_of, value_of, place_at, place_of, answer_at, answer_of}
@@ -70,7 +71,7 @@ module _ (f g : List ℕ) (a : Alike f g) where
       sym (part-drop 14 s l f) ∙ u ∙ part-drop 14 s l g
 
   wanted-alike : (kind : ℕ) (w : Place) → walk_from kind (start_of (pdu_of f)) (pdu_of f) ≡ w
-      → part_of f (in_frame (wanted w)) ≡ part_of g (in_frame (wanted w))
+      → part_of f (in_frame (Ok (wanted w))) ≡ part_of g (in_frame (Ok (wanted w)))
   wanted-alike kind (Found s l) e = same-part s l (beyond kind 0 (drop (start_of (pdu_of f)) (pdu_of f)) (start_of (pdu_of f)) s l e)
   wanted-alike kind (End at) e = refl
   wanted-alike kind (Cut at) e = refl

@@ -6,16 +6,14 @@ use mathlib.Core.Logic.{⊎_elim}
 use mathlib.Core.List.{List, [], ◌∷◌}
 use lib.Dec.{eqb, ltb}
 use lib.ListN.{length, drop}
+use Rattle.std.specs.Prelude.{Result, Ok, Err, Option}
+use Rattle.frame_seek.specs.declared.Span.{Span}
 use Rattle.base_laws.specs.Tests.{choose}
 use Rattle.base_laws.proofs.Tests.{known}
 use Rattle.frame_reader_answer.specs.declared.Bad.{Bad}
 use Rattle.frame_reader_answer.specs.declared.Bad.TheVariants.{Length, Short, Opcode, Offset, CutOff}
 use Rattle.frame_tlvs.specs.declared.Place.{Place}
 use Rattle.frame_tlvs.specs.declared.Place.TheVariants as place
-use Rattle.frame_seek.specs.declared.Seek.{Seek}
-use Rattle.frame_seek.specs.declared.Seek.TheVariants as seek
-use Rattle.frame_reader_answer.specs.declared.TlvAnswer.{TlvAnswer}
-use Rattle.frame_reader_answer.specs.declared.TlvAnswer.TheVariants as answer
 use Rattle.frame_reader_answer.specs.declared.TlvTold.{TlvTold}
 use Rattle.frame_head.specs.Head.{pdu_of, start_of}
 use Rattle.frame_tlvs.specs.Tlvs.{length_of, walk, walk_from, is_cut}
@@ -26,7 +24,7 @@ use Rattle.frame_reader.specs.Numbers.{is_found, tlv_numbers, ReaderNumbers}
 use Rattle.frame_seek.proofs.Chain.{chained, through}
 
 -- what is told of a place of the PDU, in numbers
-found_told : (w : Place) → tlv_told (answer_at (in_frame (wanted w))) ≡ cond (is_found w) (tell_tlv 0 0 1) (tell_tlv 0 0 0)
+found_told : (w : Place) → tlv_told (answer_at (in_frame (Ok (wanted w)))) ≡ cond (is_found w) (tell_tlv 0 0 1) (tell_tlv 0 0 0)
 unfolding tlv_told
 found_told (place.Found start len) = refl
 found_told (place.End at) = refl
@@ -43,34 +41,34 @@ pub agree : (f : List ℕ) (kind : ℕ) → tlv_told (answer_of f kind) ≡ tlv_
 unfolding answer_of tlv_numbers chained choose tlv_told bad_of
 agree f kind =
     let p = pdu_of f in
-    let tell : Seek → TlvTold = λ s. tlv_told (answer_at s) in
+    let tell : Result (Option Span) Bad → TlvTold = λ s. tlv_told (answer_at s) in
     through tell f kind
-    ∙ ap (λ (t : TlvTold). chained (λ b. tell (seek.Bad b)) f t) (whole-told (walk_from 0 (start_of p) p) (walk_from kind (start_of p) p))
+    ∙ ap (λ (t : TlvTold). chained (λ b. tell (Err b)) f t) (whole-told (walk_from 0 (start_of p) p) (walk_from kind (start_of p) p))
 
 -- the answer that is meant by its numbers
-back : TlvTold → TlvAnswer
+back : TlvTold → Result Bool Bad
 back t =
     choose (
-    (eqb t.refusal 1, answer.Bad Length)
-    ∷ (eqb t.drop 1, answer.Bad Short)
-    ∷ (eqb t.drop 3, answer.Bad Opcode)
-    ∷ (eqb t.drop 4, answer.Bad Offset)
-    ∷ (eqb t.drop 5, answer.Bad CutOff)
-    ∷ (eqb t.value 1, answer.Value)
+    (eqb t.refusal 1, Err Length)
+    ∷ (eqb t.drop 1, Err Short)
+    ∷ (eqb t.drop 3, Err Opcode)
+    ∷ (eqb t.drop 4, Err Offset)
+    ∷ (eqb t.drop 5, Err CutOff)
+    ∷ (eqb t.value 1, (Ok true))
     ∷ [])
-    answer.NoSuch
+    (Ok false)
 
-back-told : (a : TlvAnswer) → back (tlv_told a) ≡ a
+back-told : (a : Result Bool Bad) → back (tlv_told a) ≡ a
 unfolding back choose tlv_told bad_of
-back-told answer.Value = refl
-back-told answer.NoSuch = refl
-back-told (answer.Bad Length) = refl
-back-told (answer.Bad Short) = refl
-back-told (answer.Bad Opcode) = refl
-back-told (answer.Bad Offset) = refl
-back-told (answer.Bad CutOff) = refl
+back-told (Ok true) = refl
+back-told (Ok false) = refl
+back-told (Err Length) = refl
+back-told (Err Short) = refl
+back-told (Err Opcode) = refl
+back-told (Err Offset) = refl
+back-told (Err CutOff) = refl
 
-bare : (b : Bad) → (tlv_told (answer.Bad b)).value ≡ 0
+bare : (b : Bad) → (tlv_told (Err b)).value ≡ 0
 unfolding tlv_told bad_of
 bare Length = refl
 bare Short = refl

@@ -1,12 +1,10 @@
 -- What is answered of a frame, in the paper's numbers: one chain in the paper's order. Definitions and statements only.
-use Rattle.std.specs.Prelude.{ℕ, ◌≡◌, List, [], ◌∷◌, Bool, true, false, not, ltb, length}
+use Rattle.std.specs.Prelude.{ℕ, ◌≡◌, List, [], ◌∷◌, Bool, true, false, not, ltb, length, Result, Err}
 use Rattle.base_laws.specs.Tests.{choose}
 use Rattle.frame_opcodes.specs.Opcodes.{rule_of}
 use Rattle.frame_reader_answer.specs.declared.Bad.{Bad}
 use Rattle.frame_tlvs.specs.declared.Place.{Place}
 use Rattle.frame_tlvs.specs.declared.Place.TheVariants as place
-use Rattle.frame_reader_answer.specs.declared.TlvAnswer.{TlvAnswer}
-use Rattle.frame_reader_answer.specs.declared.TlvAnswer.TheVariants as answer
 use Rattle.frame_reader_answer.specs.declared.TlvTold.{TlvTold}
 use Rattle.frame_head.specs.Head.{is_oam, length_good, pdu_of, opcode_of, offset_of, start_of}
 use Rattle.frame_tlvs.specs.Tlvs.{walk_from, is_cut}
@@ -38,8 +36,8 @@ pub record ReaderNumbers : Type 0 where
   -- the staged search gives the numbers of the one chain
   pub agree : (f : List ℕ) (kind : ℕ) → tlv_told (answer_of f kind) ≡ tlv_numbers f kind
   -- no two answers have the same numbers
-  pub apart : (a b : TlvAnswer) → tlv_told a ≡ tlv_told b → a ≡ b
+  pub apart : (a b : Result Bool Bad) → tlv_told a ≡ tlv_told b → a ≡ b
   -- type 0 is never a value
   pub never : (f : List ℕ) → (tlv_told (answer_of f 0)).value ≡ 0
   -- beside a refusal or a drop no value is given
-  pub bare : (b : Bad) → (tlv_told (answer.Bad b)).value ≡ 0
+  pub bare : (b : Bad) → (tlv_told (Err b)).value ≡ 0

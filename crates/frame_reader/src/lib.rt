@@ -9,8 +9,8 @@ ghost use Rattle.frame_reader_answer.specs.Told.{tlv_told};
 ghost use Rattle.frame_reader.specs.Reader.{value_of, place_of, answer_of};
 ghost use Rattle.frame_reader.specs.Numbers.{tlv_numbers};
 
-use frame_reader_answer::TlvAnswer;
-use frame_seek::{Seek, seek_frame};
+use frame_reader_answer::Bad;
+use frame_seek::seek_frame;
 
 // The value of the first TLV of a type, as that part of the frame; empty, at the frame's start, where there is none or the
 // frame is bad.
@@ -18,19 +18,15 @@ pub fn tlv_value(frame: &[u8], kind: u8) -> &[u8]
     ensures { (result.now ≡ value_of frame.now kind) × (result.ref_ptr ≡ place_of frame.entry.ref_ptr frame.now kind) }
 {
     match seek_frame(frame, kind) {
-        Seek::Value { start, len } => &frame[start..start + len],
-        Seek::NoSuch => &frame[..0],
-        Seek::Bad(_) => &frame[..0],
+        Ok(Some(value)) => &frame[value.start..value.start + value.len],
+        Ok(None) => &frame[..0],
+        Err(_) => &frame[..0],
     }
 }
 
-// Answers which it is: a value, even an empty one, no such TLV, or a bad frame.
-pub fn tlv_answer(frame: &[u8], kind: u8) -> TlvAnswer
+// Whether there is a value, even an empty one; the reason where the frame is bad.
+pub fn tlv_answer(frame: &[u8], kind: u8) -> Result<bool, Bad>
     ensures { (result ≡ answer_of frame.now kind) × (tlv_told result ≡ tlv_numbers frame.now kind) }
 {
-    match seek_frame(frame, kind) {
-        Seek::Value { start: _, len: _ } => TlvAnswer::Value,
-        Seek::NoSuch => TlvAnswer::NoSuch,
-        Seek::Bad(b) => TlvAnswer::Bad(b),
-    }
+    Ok(seek_frame(frame, kind)?.is_some())
 }

@@ -20,15 +20,8 @@ pub enum Bad {
     CutOff,
 }
 
-// What the call beside the reader answers: a value, even an empty one, no such TLV, or a reason.
-#[derive(Clone, Copy)]
-pub enum TlvAnswer {
-    Value,
-    NoSuch,
-    Bad(Bad),
-}
-
-// An answer in the paper's numbers: the refusal, or 0; the drop, or 0; and 1 where there is a value.
+// An answer in the paper's numbers: the refusal, or 0; the drop, or 0; and 1 where there is a value. Numbers and no enum:
+// `frame_reader.tlv_numbers` states them, and C is given them.
 #[repr(C)]
 #[derive(Clone, Copy)]
 pub struct TlvTold {
@@ -41,6 +34,7 @@ pub struct TlvTold {
 fn tell_bad(b: Bad) -> TlvTold
     ensures { result ≡ bad_of b }
 {
+    // no `From`: `tell` alone calls it
     match b {
         Bad::Length => TlvTold {
             refusal: 1,
@@ -70,21 +64,23 @@ fn tell_bad(b: Bad) -> TlvTold
     }
 }
 
-// An answer in the paper's numbers.
-pub fn tell(a: TlvAnswer) -> TlvTold
+// What the call beside the reader answers, whether there is a value or why the frame cannot be read, in the paper's numbers.
+#[tactic(auto, unfolding(crate::specs::Told::tlv_told))]
+pub fn tell(a: Result<bool, Bad>) -> TlvTold
     ensures { result ≡ tlv_told a }
 {
+    // by this name and no `From`: lemma `tell_one`, the edits and the pages cite it
     match a {
-        TlvAnswer::Value => TlvTold {
+        Ok(true) => TlvTold {
             refusal: 0,
             drop: 0,
             value: 1,
         },
-        TlvAnswer::NoSuch => TlvTold {
+        Ok(false) => TlvTold {
             refusal: 0,
             drop: 0,
             value: 0,
         },
-        TlvAnswer::Bad(b) => tell_bad(b),
+        Err(b) => tell_bad(b),
     }
 }

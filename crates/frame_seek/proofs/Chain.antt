@@ -5,15 +5,13 @@ use mathlib.Core.Bool.{cond, not}
 use mathlib.Core.List.{List, [], ◌∷◌}
 use lib.Dec.{ltb}
 use lib.ListN.{length}
+use Rattle.std.specs.Prelude.{Result, Ok, Err, Option}
+use Rattle.frame_seek.specs.declared.Span.{Span}
 use Rattle.base_laws.specs.Tests.{choose}
 use Rattle.base_laws.proofs.Tests.{choose-map}
 use Rattle.frame_opcodes.specs.Opcodes.{rule_of}
 use Rattle.frame_reader_answer.specs.declared.Bad.{Bad}
 use Rattle.frame_reader_answer.specs.declared.Bad.TheVariants.{Length, Short, Opcode, Offset}
-use Rattle.frame_judge.specs.declared.Head.{Head}
-use Rattle.frame_judge.specs.declared.Head.TheVariants as head
-use Rattle.frame_seek.specs.declared.Seek.{Seek}
-use Rattle.frame_seek.specs.declared.Seek.TheVariants as seek
 use Rattle.frame_head.specs.Head.{is_oam, length_good, pdu_of, opcode_of, offset_of, start_of}
 use Rattle.frame_tlvs.specs.Tlvs.{walk_from}
 use Rattle.frame_judge.specs.Judge.{judge, judge_pdu}
@@ -31,18 +29,18 @@ chained bad f last =
     last)
 
 -- anything told of a search is told of the chain's reasons and of its last word
-pub through : {A : Type 0} (t : Seek → A) (f : List ℕ) (kind : ℕ)
-    → t (seek_of f kind) ≡ chained (λ b. t (seek.Bad b)) f
+pub through : {A : Type 0} (t : Result (Option Span) Bad → A) (f : List ℕ) (kind : ℕ)
+    → t (seek_of f kind) ≡ chained (λ b. t (Err b)) f
     (t (in_frame (whole (walk_from 0 (start_of (pdu_of f)) (pdu_of f)) (walk_from kind (start_of (pdu_of f)) (pdu_of f)))))
 unfolding seek_of judge judge_pdu chained choose
 through {A} t f kind =
     let p = pdu_of f in
-    let u : Head → A = λ h. t (in_frame (seek_at kind p h)) in
-    choose-map u ((not (length_good f), head.Bad Length) ∷ (not (is_oam f), head.Bad Opcode) ∷ []) (judge_pdu p)
-    ∙ ap (λ (x : A). cond (not (length_good f)) (t (seek.Bad Length)) (cond (not (is_oam f)) (t (seek.Bad Opcode)) x))
+    let u : Result ℕ Bad → A = λ h. t (in_frame (seek_at kind p h)) in
+    choose-map u ((not (length_good f), Err Length) ∷ (not (is_oam f), Err Opcode) ∷ []) (judge_pdu p)
+    ∙ ap (λ (x : A). cond (not (length_good f)) (t (Err Length)) (cond (not (is_oam f)) (t (Err Opcode)) x))
     (choose-map u
-    ((ltb (length p) 4, head.Bad Short)
-    ∷ (not (rule_of (opcode_of p)).known, head.Bad Opcode)
-    ∷ (ltb (offset_of p) (rule_of (opcode_of p)).least, head.Bad Offset)
+    ((ltb (length p) 4, Err Short)
+    ∷ (not (rule_of (opcode_of p)).known, Err Opcode)
+    ∷ (ltb (offset_of p) (rule_of (opcode_of p)).least, Err Offset)
     ∷ [])
-    (head.Tlvs (start_of p)))
+    (Ok (start_of p)))

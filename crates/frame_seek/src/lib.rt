@@ -7,57 +7,51 @@ ghost use Rattle.std.specs.Prelude.{◌≡◌};
 ghost use Rattle.frame_seek.specs.Seek.{seek_in, seek_of, Within};
 
 use frame_head::{HEAD_LENGTH, is_oam, length_good, pdu_of};
-use frame_judge::{Head, judge_pdu};
+use frame_judge::judge_pdu;
 use frame_reader_answer::Bad;
 use frame_tlvs::{Place, tlvs_whole, walk};
 
-// What a search for a TLV finds: a reason, no such TLV, or where its value is.
+// Where a value is: its first octet's place, and how many octets it has.
 #[derive(Clone, Copy)]
-pub enum Seek {
-    Bad(Bad),
-    NoSuch,
-    Value { start: usize, len: usize },
+pub struct Span {
+    pub start: usize,
+    pub len: usize,
 }
 
-// The first TLV of a type in a PDU: a reason, no such TLV, or where its value is and how long it is. Each TLV is passed once.
-pub fn seek_pdu(pdu: &[u8], kind: u8) -> Seek
+// Where in a PDU the value of the first TLV of a type is; none where there is no such TLV, or the reason that it cannot be read. Each TLV
+// is passed once.
+pub fn seek_pdu(pdu: &[u8], kind: u8) -> Result<Option<Span>, Bad>
     ensures { (result ≡ seek_in pdu.now kind) × Within pdu.now result }
 {
-    let start = match judge_pdu(pdu) {
-        Head::Bad(b) => {
-            return Seek::Bad(b);
-        }
-        Head::Tlvs(start) => start,
-    };
+    let start = judge_pdu(pdu)?;
     match walk(pdu, kind, start) {
-        Place::Cut(_) => Seek::Bad(Bad::CutOff),
-        Place::End(_) => Seek::NoSuch,
+        Place::Cut(_) => Err(Bad::CutOff),
+        Place::End(_) => Ok(None),
         Place::Found { start: at, len } => {
             if !tlvs_whole(pdu, at + len) {
-                return Seek::Bad(Bad::CutOff);
+                return Err(Bad::CutOff);
             }
-            Seek::Value { start: at, len }
+            Ok(Some(Span { start: at, len }))
         }
     }
 }
 
 // The first TLV of a type in a frame: refusal 1, D3 for a service frame, or what its PDU gives, by its place in the frame, for a caller
 // who cannot be given a part.
-pub fn seek_frame(frame: &[u8], kind: u8) -> Seek
+pub fn seek_frame(frame: &[u8], kind: u8) -> Result<Option<Span>, Bad>
     ensures { (result ≡ seek_of frame.now kind) × Within frame.now result }
 {
     if !length_good(frame) {
-        return Seek::Bad(Bad::Length);
+        return Err(Bad::Length);
     }
     if !is_oam(frame) {
-        return Seek::Bad(Bad::Opcode);
+        return Err(Bad::Opcode);
     }
-    match seek_pdu(pdu_of(frame), kind) {
-        Seek::Value { start: at, len } => Seek::Value {
-            start: HEAD_LENGTH + at,
-            len,
-        },
-        Seek::NoSuch => Seek::NoSuch,
-        Seek::Bad(b) => Seek::Bad(b),
+    match seek_pdu(pdu_of(frame), kind)? {
+        Some(value) => Ok(Some(Span {
+            start: HEAD_LENGTH + value.start,
+            len: value.len,
+        })),
+        None => Ok(None),
     }
 }

@@ -9,7 +9,8 @@ ghost use Rattle.frame_tlvs.specs.Tlvs.{walk_from, Inside, tlvs_whole};
 
 use base_numbers::read_big;
 
-// Where a walk over the TLVs stops: at type 0, at the wanted type (its value's start and length), or at a cut.
+// Where a walk over the TLVs stops: at type 0, at the wanted type (its value's start and length), or at a cut. An enum of its own: each of
+// the three has a place, and which of them is a failure is for the caller to say.
 #[derive(Clone, Copy)]
 pub enum Place {
     End(usize),

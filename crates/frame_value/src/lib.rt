@@ -5,27 +5,15 @@
 
 ghost use Rattle.std.specs.Prelude.{◌≡◌};
 ghost use Rattle.frame_value.specs.Told.{value_told};
-ghost use Rattle.frame_value.specs.Values.{zero_pattern, outcome_of, same_data, zero_test};
+ghost use Rattle.frame_value.specs.Values.{zero_pattern, same_data, zero_test};
 ghost use Rattle.frame_value.specs.Numbers.{same_numbers, zero_numbers};
 
 use base_compare::same_octets;
 use frame_reader::{tlv_answer, tlv_value};
-use frame_reader_answer::{Bad, TlvAnswer, tell as tell_reader};
+use frame_reader_answer::{Bad, tell as tell_reader};
 
-// What a value was found to be.
-#[derive(Clone, Copy)]
-pub enum ValueAnswer {
-    // It is what was asked for.
-    Holds,
-    // It is something else.
-    Differs,
-    // The frame has no such TLV.
-    NoSuch,
-    // The frame cannot be read.
-    Bad(Bad),
-}
-
-// An answer in the paper's numbers: those of the reader, and 1 where the value is what was asked for.
+// An answer in the paper's numbers: those of the reader, and 1 where the value is what was asked for. Numbers and no enum:
+// `frame_value.same_numbers` states them.
 #[repr(C)]
 #[derive(Clone, Copy)]
 pub struct ValueTold {
@@ -35,31 +23,33 @@ pub struct ValueTold {
     pub holds: u32,
 }
 
-// An answer in the paper's numbers: the reader's, and 1 where the value is what was asked for.
-pub fn tell(answer: ValueAnswer) -> ValueTold
+// Whether a value is what was asked for, none where there is no such TLV, or why the frame cannot be read; in the paper's numbers.
+#[tactic(auto, unfolding(crate::specs::Told::value_told, frame_reader_answer::specs::Told::tlv_told))]
+pub fn tell(answer: Result<Option<bool>, Bad>) -> ValueTold
     ensures { result ≡ value_told answer }
 {
+    // by this name and no `From`: lemma `tell_one`, the edits and the pages cite it
     match answer {
-        ValueAnswer::Holds => ValueTold {
+        Ok(Some(true)) => ValueTold {
             refusal: 0,
             drop: 0,
             value: 1,
             holds: 1,
         },
-        ValueAnswer::Differs => ValueTold {
+        Ok(Some(false)) => ValueTold {
             refusal: 0,
             drop: 0,
             value: 1,
             holds: 0,
         },
-        ValueAnswer::NoSuch => ValueTold {
+        Ok(None) => ValueTold {
             refusal: 0,
             drop: 0,
             value: 0,
             holds: 0,
         },
-        ValueAnswer::Bad(b) => {
-            let bad = tell_reader(TlvAnswer::Bad(b));
+        Err(b) => {
+            let bad = tell_reader(Err(b));
             ValueTold {
                 refusal: bad.refusal,
                 drop: bad.drop,
@@ -74,48 +64,24 @@ pub fn tell(answer: ValueAnswer) -> ValueTold
 fn zero_pattern(value: &[u8]) -> bool
     ensures { result ≡ zero_pattern value.now }
 {
-    let mut i: usize = 0;
-    while i < value.len() {
-        if value[i] != 0 {
-            return false;
-        }
-        i += 1;
-    }
-    0 < value.len()
+    !value.is_empty() && value.iter().all(|octet| *octet == 0)
 }
 
-// What the reader says of a frame, and of the value where there is one.
-fn outcome(answer: TlvAnswer, holds: bool) -> ValueAnswer
-    ensures { result ≡ outcome_of answer holds }
-{
-    match answer {
-        TlvAnswer::Value => {
-            if holds {
-                ValueAnswer::Holds
-            } else {
-                ValueAnswer::Differs
-            }
-        }
-        TlvAnswer::NoSuch => ValueAnswer::NoSuch,
-        TlvAnswer::Bad(b) => ValueAnswer::Bad(b),
-    }
-}
-
-// Whether the value of the frame's data TLV, type 3, is these octets, as many and in the same order; no such TLV and a bad frame's number
-// are answers of their own.
-pub fn same_data(frame: &[u8], octets: &[u8]) -> ValueAnswer
+// Whether the value of the frame's data TLV, type 3, is these octets, as many and in the same order; none where there is no such TLV, the
+// reason where the frame is bad.
+pub fn same_data(frame: &[u8], octets: &[u8]) -> Result<Option<bool>, Bad>
     ensures { (result ≡ same_data frame.now octets.now)
         × (value_told result ≡ same_numbers frame.now octets.now) }
 {
     let same = same_octets(tlv_value(frame, 3), octets);
-    outcome(tlv_answer(frame, 3), same)
+    Ok(tlv_answer(frame, 3)?.then_some(same))
 }
 
-// Whether the frame's test TLV, type 32, holds pattern type 0 and zeros only; no such TLV and a bad frame's number are answers of their
-// own.
-pub fn all_zero_test(frame: &[u8]) -> ValueAnswer
+// Whether the frame's test TLV, type 32, holds pattern type 0 and zeros only; none where there is no such TLV, the reason where the frame
+// is bad.
+pub fn all_zero_test(frame: &[u8]) -> Result<Option<bool>, Bad>
     ensures { (result ≡ zero_test frame.now) × (value_told result ≡ zero_numbers frame.now) }
 {
     let zeros = zero_pattern(tlv_value(frame, 32));
-    outcome(tlv_answer(frame, 32), zeros)
+    Ok(tlv_answer(frame, 32)?.then_some(zeros))
 }

@@ -19,6 +19,7 @@ use frame_reader::{tlv_answer, tlv_value};
 use frame_reader_answer::tell as tell_tlv;
 use std::env::FillError;
 use std::io::{self, Read};
+use std::ops::ControlFlow;
 use std::rt::Env;
 
 // A word, and the number behind it.
@@ -291,13 +292,6 @@ fn end_line(rt: &(impl Print + Eprint), line: &[u8; LINE], marks: Marks) -> io::
     show(rt, &all[1..at], all[0])
 }
 
-// The marks after a chunk of input, and whether more may come.
-#[derive(Clone, Copy)]
-struct Turn {
-    marks: Marks,
-    more: bool,
-}
-
 // Takes the characters of a chunk one by one.
 fn take_all(
     rt: &(impl Print + Eprint),
@@ -316,6 +310,7 @@ fn take_all(
 const CHUNK: usize = 4096;
 
 // Reads until the buffer is full or the input ends; returns how many octets came. A read that fails ends the input.
+// The same text in each program: a library function needs a contract that leaves one result, and none can say what an input gives.
 fn read_full(input: &mut impl Read, buffer: &mut [u8]) -> usize
     ensures { result ≤ length buffer.new }
 {
@@ -329,22 +324,24 @@ fn read_full(input: &mut impl Read, buffer: &mut [u8]) -> usize
     got
 }
 
-// Reads a chunk of input and takes it.
+// Reads a chunk of input and takes it; answers the marks after it, as a break where the input has ended.
 fn read_chunk(
     rt: &(impl Print + Eprint),
     input: &mut impl Read,
     line: &mut [u8; LINE],
     marks: Marks,
-) -> io::Result<Turn> {
+) -> io::Result<ControlFlow<Marks, Marks>> {
     let mut chunk = [0u8; CHUNK];
     let got = read_full(input, &mut chunk);
-    Ok(Turn {
-        marks: take_all(rt, &chunk[..got], line, marks)?,
-        more: 0 < got,
-    })
+    if got == 0 {
+        return Ok(ControlFlow::Break(marks));
+    }
+    let after = take_all(rt, &chunk[..got], line, marks)?;
+    Ok(ControlFlow::Continue(after))
 }
 
 // Whether the program was given an argument. It may be any octets, so it is not read as text.
+// The same text in each program: a library function needs a contract that leaves one result, and none can say what an argument is.
 fn has_argument(rt: &impl Env) -> bool {
     !matches!(rt.arg(1, &mut [0u8; 1]), Err(FillError::NotPresent))
 }
@@ -360,10 +357,9 @@ fn main(rt: HostRuntime) -> io::Result<()> {
     let mut marks = no_marks(1);
     // a loop must be shown to end, and nothing says that input does
     for _ in 0..u64::MAX {
-        let t = read_chunk(&rt, &mut input, &mut line, marks)?;
-        marks = t.marks;
-        if !t.more {
-            return end_line(&rt, &line, marks);
+        match read_chunk(&rt, &mut input, &mut line, marks)? {
+            ControlFlow::Continue(after) => marks = after,
+            ControlFlow::Break(last) => return end_line(&rt, &line, last),
         }
     }
     Ok(())

@@ -15,13 +15,14 @@ ghost use Rattle.linkbox_frame.specs.Sides.{side_of};
 use base_stamp::Stamp;
 use receive_answer::FrameTold;
 use receive_class::Side;
-use state_settings::{Names, Set, Slots};
+use state_settings::{LentSettings, Names, Set, Slots};
 use state_view::{Run, Totals};
 
 // The side that a number of C's names.
 fn side_of(number: u32) -> Side
     ensures { result ≡ side_of number }
 {
+    // no `From`: both types are others'
     if number == 0 {
         Side::Active
     } else {
@@ -50,9 +51,7 @@ pub fn linkbox_raw_frame(
     ensures wire { Wire receive × Wire transmit }
 {
     let answer = receive_frame::on_frame(
-        set,
-        names,
-        ids,
+        LentSettings { set, names, ids },
         timers,
         rdi,
         run,

@@ -8,6 +8,7 @@ use native.Mathlib.Omega.{arith}
 use lib.Dec.{ltb}
 use lib.ListN.{length}
 use borrow.Author.Tests.{ltb-true, lt-ltb, ltb-false, le-ltb}
+use Rattle.std.specs.Prelude.{Result}
 use Rattle.base_laws.specs.Tests.{choose}
 use Rattle.base_laws.specs.Lists.{laid}
 use Rattle.base_laws.specs.Ended.{Wrote, wrote, told_by}
@@ -17,7 +18,7 @@ use Rattle.loss_session.specs.Session.{near, far}
 use Rattle.state_view.specs.State.{State}
 use Rattle.state_view.specs.WellFormed.{WellFormed, well_formed}
 use Rattle.state_view.proofs.Rules.{well_formed_is}
-use Rattle.stored_record.specs.declared.RecordAnswer.{RecordAnswer}
+use Rattle.stored_record.specs.declared.RecordRefusal.{RecordRefusal}
 use Rattle.stored_record.specs.declared.RecordTold.{RecordTold}
 use Rattle.stored_record.specs.Writing.{tell_record, record_told}
 use Rattle.stored_line.specs.declared.LossLine.{LossLine}
@@ -56,9 +57,9 @@ module _ (s : State) (buffer : List ℕ) where
   no_room w h =
       let line = line_of s.session in
       let three = (loss-records.refuses_3 line buffer).1 (keeps s w, h) in
-      let refused : (record_told (write_line line buffer).answer).refusal ≡ 3 = ap (λ (x : RecordAnswer). (record_told x).refusal) three in
+      let refused : (record_told (write_line line buffer).answer).refusal ≡ 3 = ap (λ (x : Result ℕ RecordRefusal). (record_told x).refusal) three in
       let stays = loss-records.refused line buffer (λ e. absurd (omega (arith, e, refused))) in
-      ap₂ (λ (x : RecordAnswer) (b : List ℕ). wrote (record_told x) b) three stays
+      ap₂ (λ (x : Result ℕ RecordRefusal) (b : List ℕ). wrote (record_told x) b) three stays
 
   room : WellFormed s → 24 ≤ length buffer → told ≡ wrote (tell_record 0 24) (laid 0 (line_record (line_of s.session)) buffer)
   unfolding record_told
@@ -76,7 +77,7 @@ module _ (s : State) (buffer : List ℕ) where
   pub ends_2 : {b : Bool} → b ≡ well_formed s → b ≡ false → wrote (tell_record 2 0) buffer ≡ loss_line_of s buffer
   ends_2 {b} e h = sym (at_2 (sym e ∙ h))
 
-  pub ends-written : {b : Bool} {r : RecordAnswer} {n : RecordTold} {after : List ℕ} {line : LossLine} → b ≡ well_formed s → b ≡ true
+  pub ends-written : {b : Bool} {r : Result ℕ RecordRefusal} {n : RecordTold} {after : List ℕ} {line : LossLine} → b ≡ well_formed s → b ≡ true
       → wrote r after ≡ write_line line buffer → line ≡ line_of s.session → n ≡ record_told r → wrote n after ≡ loss_line_of s buffer
   ends-written {b} e h written is tells =
       told-by record_told tells (written ∙ ap (λ (line : LossLine). write_line line buffer) is)

@@ -1,6 +1,6 @@
 -- The loss line of a box as a stored record. The paper, "Stored records" and "Refusals": kind 2 has both totals and the intervals; refusal
 -- 2, then 3; a refused call leaves the buffer as it was. Definitions and the statement only.
-use Rattle.std.specs.Prelude.{ℕ, ◌≤◌, ◌<◌, ◌≡◌, List, [], ◌∷◌, ◌++◌, not, ltb, length}
+use Rattle.std.specs.Prelude.{ℕ, ◌≤◌, ◌<◌, ◌≡◌, List, [], ◌∷◌, ◌++◌, not, ltb, length, Some}
 use Rattle.base_laws.specs.Tests.{choose}
 use Rattle.base_laws.specs.Lists.{laid}
 use Rattle.base_laws.specs.Ended.{Wrote, wrote, told_by}
@@ -10,7 +10,6 @@ use Rattle.state_view.specs.WellFormed.{WellFormed, well_formed}
 use Rattle.stored_record.specs.declared.RecordTold.{RecordTold}
 use Rattle.stored_record.specs.Writing.{tell_record, record_told}
 use Rattle.stored_line.specs.declared.LossLine.{LossLine}
-use Rattle.stored_line.specs.declared.LineAnswer.TheVariants.{Line}
 use Rattle.stored_line.specs.Line.{KeepsRules, line_record}
 use Rattle.stored_line.specs.LineCalls.{read_line, write_line}
 
@@ -36,7 +35,7 @@ pub record LossLines : Type 0 where
       → loss_line_of s buffer ≡ wrote (tell_record 0 24) (laid 0 (line_record (line_of s.session)) buffer)
   pub keeps : (s : State) → WellFormed s → KeepsRules (line_of s.session)
   pub reads_back : (s : State) (rest : List ℕ) → WellFormed s
-      → read_line (line_record (line_of s.session) ++ rest) ≡ Line (line_of s.session)
+      → read_line (line_record (line_of s.session) ++ rest) ≡ Some (line_of s.session)
   -- what writing that line is answered by itself, which has no 2
   pub is-written : (s : State) (buffer : List ℕ) → WellFormed s
       → loss_line_of s buffer ≡ told_by record_told (write_line (line_of s.session) buffer)

@@ -9,8 +9,8 @@ ghost use Rattle.base_laws.specs.Ended.{wrote};
 ghost use Rattle.state_view.specs.State.{before, session_in};
 ghost use Rattle.linkbox_line.specs.Line.{line_of, loss_line_of};
 
-use state_settings::{Names, Set, Slots};
-use state_view::{FAR, INTERVALS, NEAR, Run, Totals};
+use state_settings::{LentSettings, Names, Set, Slots};
+use state_view::{FAR, INTERVALS, LentState, NEAR, Run, Totals};
 use state_well_formed::is_well_formed;
 use stored_line::LossLine;
 use stored_line_calls::write_line;
@@ -42,7 +42,14 @@ pub fn linkbox_raw_loss_line(
 ) -> RecordTold
     ensures { wrote result into.new ≡ loss_line_of (before set names ids timers.now rdi.now run.now totals.now) into.old }
 {
-    if !is_well_formed(set, names, ids, timers, rdi, run, totals) {
+    let settings = LentSettings { set, names, ids };
+    if !is_well_formed(LentState {
+        settings,
+        timers,
+        rdi,
+        run,
+        totals,
+    }) {
         return RecordTold {
             refusal: 2,
             length: 0,

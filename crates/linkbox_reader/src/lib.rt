@@ -8,10 +8,11 @@ ghost use Rattle.frame_reader_answer.specs.Told.{tlv_told};
 ghost use Rattle.frame_seek.specs.Seek.{seek_of};
 ghost use Rattle.linkbox_reader.specs.Tlvs.{tlv_at};
 
-use frame_reader_answer::TlvAnswer;
-use frame_seek::{Seek, seek_frame};
+use frame_reader_answer::Bad;
+use frame_seek::seek_frame;
 
-// A TLV in the paper's numbers: the refusal, or 0; the drop, or 0; 1 where there is a value; and where in the frame it is.
+// A TLV in the paper's numbers: the refusal, or 0; the drop, or 0; 1 where there is a value; and where in the frame it is. Numbers and no
+// enum: C is given them.
 #[repr(C)]
 #[derive(Clone, Copy)]
 pub struct TlvAt {
@@ -23,7 +24,7 @@ pub struct TlvAt {
 }
 
 // An answer of the reader's beside a place and a length.
-fn placed(answer: TlvAnswer, start: usize, length: usize) -> TlvAt
+fn placed(answer: Result<bool, Bad>, start: usize, length: usize) -> TlvAt
     ensures { result ≡
         record { refusal = (tlv_told answer).refusal; drop = (tlv_told answer).drop; value = (tlv_told answer).value; start = start; length = length } }
 {
@@ -42,8 +43,8 @@ pub fn linkbox_tlv(frame: &[u8], kind: u8) -> TlvAt
     ensures { result ≡ tlv_at (seek_of frame.now kind) }
 {
     match seek_frame(frame, kind) {
-        Seek::Value { start, len } => placed(TlvAnswer::Value, start, len),
-        Seek::NoSuch => placed(TlvAnswer::NoSuch, 0, 0),
-        Seek::Bad(b) => placed(TlvAnswer::Bad(b), 0, 0),
+        Ok(Some(value)) => placed(Ok(true), value.start, value.len),
+        Ok(None) => placed(Ok(false), 0, 0),
+        Err(b) => placed(Err(b), 0, 0),
     }
 }

@@ -4,6 +4,8 @@ use mathlib.Core.Path.{◌≡◌, refl, sym, ap, ap₂, subst, ◌∙◌}
 use mathlib.Core.Bool.{true, false}
 use mathlib.Core.Logic.{⊎_elim}
 use native.Mathlib.Omega.{arith}
+use Rattle.std.specs.Prelude.{Result, Ok, Err, Option, Some, None}
+use Rattle.frame_seek.specs.declared.Span.{Span}
 use Rattle.base_laws.proofs.Ended.{answer-is, buffer-is}
 use Rattle.base_laws.specs.Tests.{choose}
 use Rattle.base_laws.proofs.Tests.{known}
@@ -15,17 +17,14 @@ use Rattle.stored_settings_body.specs.declared.SettingsRead.{SettingsRead}
 use Rattle.stored_line.proofs.LineRecords.{loss-records}
 use Rattle.stored_settings.specs.SettingsRecord.{body_size, settings_at, refused_read, read_settings, write_settings}
 use Rattle.stored_record.specs.Record.{is_record}
-use Rattle.stored_record.specs.declared.RecordAnswer.{RecordAnswer}
-use Rattle.stored_record.specs.declared.RecordAnswer.TheVariants as stored
+use Rattle.stored_record.specs.declared.RecordRefusal.{RecordRefusal}
+use Rattle.stored_record.specs.declared.RecordRefusal.TheVariants as stored
 use Rattle.stored_record.specs.Writing as Writing
-use Rattle.stored_line.specs.declared.LineAnswer.{LineAnswer}
-use Rattle.stored_line.specs.declared.LineAnswer.TheVariants as line
+use Rattle.stored_line.specs.declared.LossLine.{LossLine}
 use Rattle.stored_line.specs.LineCalls as Line
 use Rattle.stored_line.specs.LineCalls.{write_line}
 use Rattle.linkbox_reader.specs.declared.TlvAt.{TlvAt}
-use Rattle.frame_seek.specs.Seek.{seek_of}
-use Rattle.frame_seek.specs.declared.Seek.{Seek}
-use Rattle.frame_seek.specs.declared.Seek.TheVariants as seek
+use Rattle.frame_seek.specs.Seek.{span, seek_of}
 use Rattle.frame_reader_answer.specs.declared.Bad.{Bad}
 use Rattle.frame_reader_answer.specs.declared.Bad.TheVariants as bad
 use Rattle.frame_reader_answer.specs.Told as Reasons
@@ -41,19 +40,19 @@ use Rattle.linkbox_line.proofs.Lines.{loss-lines}
 use Rattle.linkbox_said.proofs.Heard.{write-says, line-says, tlv-says}
 
 -- the numbers of our answers are those of the paper's
-write_is : (x : RecordAnswer) → Writing.record_told x ≡ write_heard (write_tells x)
+write_is : (x : Result ℕ RecordRefusal) → Writing.record_told x ≡ write_heard (write_tells x)
 unfolding Writing.record_told
-write_is stored.BreaksRule = refl
-write_is stored.NoRoom = refl
-write_is (stored.Octets n) = refl
+write_is (Err stored.BreaksRule) = refl
+write_is (Err stored.NoRoom) = refl
+write_is (Ok n) = refl
 
-line-is : (x : LineAnswer) → Line.line_told x ≡ line_heard (line_tells x)
+line-is : (x : Option LossLine) → Line.line_told x ≡ line_heard (line_tells x)
 unfolding Line.line_told
-line-is line.Refused = refl
-line-is (line.Line l) = refl
+line-is None = refl
+line-is (Some l) = refl
 
-bad-is : (f : List ℕ) (b : Bad) → Reasons.tlv_told (answer_at (seek.Bad b)) ≡ tlv_heard
-    (reader_tells (answer_at (seek.Bad b)) (part_of f (seek.Bad b)))
+bad-is : (f : List ℕ) (b : Bad) → Reasons.tlv_told (answer_at (Err b)) ≡ tlv_heard
+    (reader_tells (answer_at (Err b)) (part_of f (Err b)))
 unfolding Reasons.tlv_told Reasons.bad_of
 bad-is f bad.Length = refl
 bad-is f bad.Short = refl
@@ -61,18 +60,18 @@ bad-is f bad.Opcode = refl
 bad-is f bad.Offset = refl
 bad-is f bad.CutOff = refl
 
-tlv-is : (f : List ℕ) (s : Seek) → Reasons.tlv_told (answer_at s) ≡ tlv_heard (reader_tells (answer_at s) (part_of f s))
+tlv-is : (f : List ℕ) (s : Result (Option Span) Bad) → Reasons.tlv_told (answer_at s) ≡ tlv_heard (reader_tells (answer_at s) (part_of f s))
 unfolding Reasons.tlv_told
-tlv-is f (seek.Value start len) = refl
-tlv-is f seek.NoSuch = refl
-tlv-is f (seek.Bad b) = bad-is f b
+tlv-is f (Ok (Some value)) = refl
+tlv-is f (Ok None) = refl
+tlv-is f (Err b) = bad-is f b
 
 -- no value, no place
-no_place : (s : Seek) → (tlv_at s).value ≡ 0 → ((tlv_at s).start ≡ 0) × ((tlv_at s).length ≡ 0)
+no_place : (s : Result (Option Span) Bad) → (tlv_at s).value ≡ 0 → ((tlv_at s).start ≡ 0) × ((tlv_at s).length ≡ 0)
 unfolding Reasons.tlv_told
-no_place (seek.Value start len) e = absurd (omega (arith, e))
-no_place seek.NoSuch e = (refl, refl)
-no_place (seek.Bad b) e = (refl, refl)
+no_place (Ok (Some value)) e = absurd (omega (arith, e))
+no_place (Ok None) e = (refl, refl)
+no_place (Err b) e = (refl, refl)
 
 -- settings that are not read are zeros
 unread : (octets : List ℕ) (r : SettingsRead) → r ≡ read_settings octets → (r.refusal ≡ 0 → ⊥) → r ≡ refused_read

@@ -2,34 +2,35 @@
 use Prim.Native.Nat.{ℕ}
 use mathlib.Core.Path.{◌≡◌, refl}
 use mathlib.Core.List.{List}
+use Rattle.std.specs.Prelude.{Result, Ok, Err, Option, Some, None}
+use Rattle.frame_seek.specs.declared.Span.{Span}
 use Rattle.base_laws.specs.Tests.{choose}
 use Rattle.state_view.specs.State.{State}
 use Rattle.receive_answer.specs.declared.Drop.{Drop}
 use Rattle.receive_answer.specs.declared.Drop.TheVariants as drop
-use Rattle.receive_answer.specs.declared.FrameAnswer.{FrameAnswer}
-use Rattle.receive_answer.specs.declared.FrameAnswer.TheVariants as answer
+use Rattle.receive_answer.specs.declared.FrameRefusal.{FrameRefusal}
+use Rattle.receive_answer.specs.declared.FrameDone.{FrameDone}
+use Rattle.receive_answer.specs.declared.FrameRefusal.TheVariants as answer
+use Rattle.receive_answer.specs.declared.FrameDone.TheVariants as did
 use Rattle.receive_answer.specs.Told as Frame
-use Rattle.call_clear.specs.declared.ClearAnswer.{ClearAnswer}
-use Rattle.call_clear.specs.declared.ClearAnswer.TheVariants as cleared
+use Rattle.call_clear.specs.declared.ClearRefusal.{ClearRefusal}
+use Rattle.call_clear.specs.declared.ClearRefusal.TheVariants as cleared
 use Rattle.call_clear.specs.Clear as Clear
-use Rattle.call_setting.specs.declared.SettingAnswer.{SettingAnswer}
-use Rattle.call_setting.specs.declared.SettingAnswer.TheVariants as setting
+use Rattle.call_setting.specs.declared.SettingRefusal.{SettingRefusal}
+use Rattle.call_setting.specs.declared.SettingRefusal.TheVariants as setting
 use Rattle.call_setting.specs.Told as Setting
-use Rattle.call_send_answer.specs.declared.DmmAnswer.{DmmAnswer}
-use Rattle.call_send_answer.specs.declared.DmmAnswer.TheVariants as dmm
-use Rattle.call_send_answer.specs.declared.LmmAnswer.{LmmAnswer}
-use Rattle.call_send_answer.specs.declared.LmmAnswer.TheVariants as lmm
+use Rattle.call_send_answer.specs.declared.DmmRefusal.{DmmRefusal}
+use Rattle.call_send_answer.specs.declared.DmmRefusal.TheVariants as dmm
+use Rattle.call_send_answer.specs.declared.SendRefusal.{SendRefusal}
+use Rattle.call_send_answer.specs.declared.SendRefusal.TheVariants as lmm
 use Rattle.call_send_answer.specs.Told.{tick_told, lmm_told, dmm_told}
 use Rattle.call_tick.specs.Tick.{tick_of}
 use Rattle.call_tick.proofs.Ticks.{of_four}
-use Rattle.stored_record.specs.declared.RecordAnswer.{RecordAnswer}
-use Rattle.stored_record.specs.declared.RecordAnswer.TheVariants as stored
+use Rattle.stored_record.specs.declared.RecordRefusal.{RecordRefusal}
+use Rattle.stored_record.specs.declared.RecordRefusal.TheVariants as stored
 use Rattle.stored_record.specs.Writing as Writing
-use Rattle.stored_line.specs.declared.LineAnswer.{LineAnswer}
-use Rattle.stored_line.specs.declared.LineAnswer.TheVariants as line
+use Rattle.stored_line.specs.declared.LossLine.{LossLine}
 use Rattle.stored_line.specs.LineCalls as Line
-use Rattle.frame_seek.specs.declared.Seek.{Seek}
-use Rattle.frame_seek.specs.declared.Seek.TheVariants as seek
 use Rattle.frame_reader_answer.specs.declared.Bad.{Bad}
 use Rattle.frame_reader_answer.specs.declared.Bad.TheVariants as bad
 use Rattle.frame_reader_answer.specs.Told as Reasons
@@ -40,17 +41,17 @@ use Rattle.paper_beside.specs.Records.{write_tells, line_tells}
 use Rattle.paper_beside.specs.Reader.{reader_tells}
 use Rattle.linkbox_said.specs.Heard.{plain_says, frame_says, tick_says, send_says, write_says, line_says, tlv_says}
 
-pub setting-says : (x : SettingAnswer) → plain_says (Setting.setting_told x).refusal ≡ setting_answer x
+pub setting-says : (x : Result Unit SettingRefusal) → plain_says (Setting.setting_told x).refusal ≡ setting_answer x
 unfolding Setting.setting_told
-setting-says setting.Invalid = refl
-setting-says setting.Set = refl
+setting-says (Err setting.Invalid) = refl
+setting-says (Ok u) = refl
 
-pub clear-says : (x : ClearAnswer) → plain_says (Clear.clear_told x).refusal ≡ clear_answer x
+pub clear-says : (x : Result Unit ClearRefusal) → plain_says (Clear.clear_told x).refusal ≡ clear_answer x
 unfolding Clear.clear_told
-clear-says cleared.NotWellFormed = refl
-clear-says cleared.Cleared = refl
+clear-says (Err cleared.NotWellFormed) = refl
+clear-says (Ok u) = refl
 
-drop-says : (d : Drop) → frame_says (Frame.frame_told (answer.Dropped d)) ≡ frame_answer (answer.Dropped d)
+drop-says : (d : Drop) → frame_says (Frame.frame_told (Ok (did.Dropped d))) ≡ frame_answer (Ok (did.Dropped d))
 unfolding Frame.frame_told Frame.drop_of choose
 drop-says drop.Short = refl
 drop-says drop.Level = refl
@@ -61,52 +62,52 @@ drop-says drop.Destination = refl
 drop-says drop.Value = refl
 drop-says drop.TooLarge = refl
 
-pub frame-says : (x : FrameAnswer) → frame_says (Frame.frame_told x) ≡ frame_answer x
+pub frame-says : (x : Result FrameDone FrameRefusal) → frame_says (Frame.frame_told x) ≡ frame_answer x
 unfolding Frame.frame_told choose
-frame-says answer.NotWellFormed = refl
-frame-says answer.BadLength = refl
-frame-says answer.BadStamp = refl
-frame-says answer.NoRoom = refl
-frame-says answer.Full = refl
-frame-says (answer.Dropped d) = drop-says d
-frame-says answer.Passed = refl
-frame-says answer.Taken = refl
-frame-says (answer.Replied n) = refl
-frame-says answer.First = refl
-frame-says (answer.Measured near far) = refl
-frame-says (answer.TwoWay twoway) = refl
-frame-says (answer.AllWays twoway far near) = refl
+frame-says (Err answer.NotWellFormed) = refl
+frame-says (Err answer.BadLength) = refl
+frame-says (Err answer.BadStamp) = refl
+frame-says (Err answer.NoRoom) = refl
+frame-says (Err answer.Full) = refl
+frame-says (Ok (did.Dropped d)) = drop-says d
+frame-says (Ok did.Passed) = refl
+frame-says (Ok did.Taken) = refl
+frame-says (Ok (did.Replied n)) = refl
+frame-says (Ok did.First) = refl
+frame-says (Ok (did.Measured near far)) = refl
+frame-says (Ok (did.TwoWay twoway)) = refl
+frame-says (Ok (did.AllWays twoway far near)) = refl
 
 -- of a tick's own answers: a CCM is longer than nothing
 pub tick-says : (s : State) (buffer : List ℕ) → tick_says (tick_told (tick_of s buffer).answer) ≡ tick_answer (tick_of s buffer).answer
 unfolding tick_told choose
 tick-says s buffer = of_four (λ x. tick_says (tick_told x) ≡ tick_answer x) refl refl refl refl s buffer
 
-pub lmm-says : (x : LmmAnswer) → send_says (lmm_told x) ≡ lmm_answer x
+pub lmm-says : (x : Result ℕ SendRefusal) → send_says (lmm_told x) ≡ lmm_answer x
 unfolding lmm_told
-lmm-says lmm.NotWellFormed = refl
-lmm-says lmm.NoRoom = refl
-lmm-says (lmm.Sent n) = refl
+lmm-says (Err lmm.NotWellFormed) = refl
+lmm-says (Err lmm.NoRoom) = refl
+lmm-says (Ok n) = refl
 
-pub dmm-says : (x : DmmAnswer) → send_says (dmm_told x) ≡ dmm_answer x
+pub dmm-says : (x : Result ℕ DmmRefusal) → send_says (dmm_told x) ≡ dmm_answer x
 unfolding dmm_told
-dmm-says dmm.NotWellFormed = refl
-dmm-says dmm.BadStamp = refl
-dmm-says dmm.NoRoom = refl
-dmm-says (dmm.Sent n) = refl
+dmm-says (Err dmm.NotWellFormed) = refl
+dmm-says (Err dmm.BadStamp) = refl
+dmm-says (Err dmm.NoRoom) = refl
+dmm-says (Ok n) = refl
 
-pub write-says : (x : RecordAnswer) → write_says (Writing.record_told x) ≡ write_tells x
+pub write-says : (x : Result ℕ RecordRefusal) → write_says (Writing.record_told x) ≡ write_tells x
 unfolding Writing.record_told
-write-says stored.BreaksRule = refl
-write-says stored.NoRoom = refl
-write-says (stored.Octets n) = refl
+write-says (Err stored.BreaksRule) = refl
+write-says (Err stored.NoRoom) = refl
+write-says (Ok n) = refl
 
-pub line-says : (x : LineAnswer) → line_says (Line.line_told x) ≡ line_tells x
+pub line-says : (x : Option LossLine) → line_says (Line.line_told x) ≡ line_tells x
 unfolding Line.line_told
-line-says line.Refused = refl
-line-says (line.Line l) = refl
+line-says None = refl
+line-says (Some l) = refl
 
-bad-says : (f : List ℕ) (b : Bad) → tlv_says (tlv_at (seek.Bad b)) f ≡ reader_tells (answer_at (seek.Bad b)) (part_of f (seek.Bad b))
+bad-says : (f : List ℕ) (b : Bad) → tlv_says (tlv_at (Err b)) f ≡ reader_tells (answer_at (Err b)) (part_of f (Err b))
 unfolding Reasons.tlv_told Reasons.bad_of choose
 bad-says f bad.Length = refl
 bad-says f bad.Short = refl
@@ -114,8 +115,8 @@ bad-says f bad.Opcode = refl
 bad-says f bad.Offset = refl
 bad-says f bad.CutOff = refl
 
-pub tlv-says : (f : List ℕ) (s : Seek) → tlv_says (tlv_at s) f ≡ reader_tells (answer_at s) (part_of f s)
+pub tlv-says : (f : List ℕ) (s : Result (Option Span) Bad) → tlv_says (tlv_at s) f ≡ reader_tells (answer_at s) (part_of f s)
 unfolding Reasons.tlv_told choose
-tlv-says f (seek.Value start len) = refl
-tlv-says f seek.NoSuch = refl
-tlv-says f (seek.Bad b) = bad-says f b
+tlv-says f (Ok (Some value)) = refl
+tlv-says f (Ok None) = refl
+tlv-says f (Err b) = bad-says f b

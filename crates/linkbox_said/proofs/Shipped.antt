@@ -7,6 +7,7 @@ use mathlib.Core.List.{List, []}
 use mathlib.Core.Logic.{⊎_elim}
 use lib.Dec.{eqb}
 use borrow.Author.Tests.{eqb-true}
+use Rattle.std.specs.Prelude.{Result}
 use Rattle.base_laws.specs.Ended.{Ended, ended, told_by}
 use Rattle.base_laws.proofs.Ended.{answer-is, state-is, buffer-is}
 use Rattle.receive_answer.specs.Told.{frame_told}
@@ -43,7 +44,8 @@ use Rattle.linkbox_said.specs.Heard.{plain_says, frame_says, tick_says, send_say
 use Rattle.linkbox_said.specs.Lying.{state_in, side_by, arrival_in}
 use Rattle.linkbox_said.specs.Shipped.{Tells, Shipped}
 use Rattle.linkbox_said.proofs.Heard.{setting-says, clear-says, frame-says, tick-says, lmm-says, dmm-says}
-use Rattle.receive_answer.specs.declared.FrameAnswer.{FrameAnswer}
+use Rattle.receive_answer.specs.declared.FrameRefusal.{FrameRefusal}
+use Rattle.receive_answer.specs.declared.FrameDone.{FrameDone}
 
 -- what tells the outcome of our box tells the paper's
 tied : {x : Answer} {n : Numbers} {z : State} {b : List ℕ} {h : HandedOut} (s : State) (c : Call) (o : Outcome) → OnWire c → Said s c o
@@ -57,7 +59,7 @@ side-is true = refl
 side-is false = refl
 
 module _ (s : State) (n : ℕ) (x : Arrival) (by : x.side ≡ side_by n) where
-  abbrev from : Side → Ended State FrameAnswer
+  abbrev from : Side → Ended State (Result FrameDone FrameRefusal)
   from d = frame_of s d x.octets x.receive x.transmit x.buffer
 
   frame-tells : (r : FrameTold) (z : State) (b : List ℕ) → ended r z b ≡ told_by frame_told (from (C.side_of n))

@@ -7,13 +7,13 @@ use mathlib.Core.Logic.{⊎_elim}
 use native.Mathlib.Omega.{arith}
 use lib.ListN.{length}
 use borrow.Author.Tests.{lt-ltb}
+use Rattle.std.specs.Prelude.{Result, Ok, Option, Some, None}
 use Rattle.base_laws.proofs.Tests.{known, fails}
 use Rattle.state_view.specs.State.{State}
 use Rattle.state_view.specs.WellFormed.{WellFormed, well_formed}
 use Rattle.state_view.proofs.Rules.{well_formed_is}
 use Rattle.message_ccm.specs.Continuity.{ccm_length}
-use Rattle.call_send_answer.specs.declared.TickAnswer.{TickAnswer}
-use Rattle.call_send_answer.specs.declared.TickAnswer.TheVariants.{Quiet, Sent}
+use Rattle.call_send_answer.specs.declared.SendRefusal.{SendRefusal}
 use Rattle.call_send_answer.specs.Told.{tick_told}
 use Rattle.call_tick.specs.Tick.{next_of, tick_of}
 use Rattle.call_tick.proofs.Ticks.{ticks}
@@ -54,21 +54,21 @@ module _ (s : State) where
   ends_next {b} e h = sym (at-good (sym e ∙ h))
 
 module _ (s : State) (buffer : List ℕ) where
-  sends-to : (tick_of s buffer).answer ≡ Sent ccm_length → (ticks_to_next s ≡ 1) × (89 ≤ length buffer)
+  sends-to : (tick_of s buffer).answer ≡ Ok (Some ccm_length) → (ticks_to_next s ≡ 1) × (89 ≤ length buffer)
   sends-to e = let (w, one, room) = (ticks.sends s buffer).0 e in (well s w ∙ one, room)
 
-  sends-from : (ticks_to_next s ≡ 1) × (89 ≤ length buffer) → (tick_of s buffer).answer ≡ Sent ccm_length
+  sends-from : (ticks_to_next s ≡ 1) × (89 ≤ length buffer) → (tick_of s buffer).answer ≡ Ok (Some ccm_length)
   sends-from h = let w = is-well s h.0 in (ticks.sends s buffer).1 (w, sym (well s w) ∙ h.0, h.1)
 
   -- a tick that sends nothing passes, and counts one
   left : 1 < s.next → next_of s ≡ s.next - 1
   left h = rw (lt-ltb 1 s.next h)
 
-  lowers : (tick_of s buffer).answer ≡ Quiet → suc (ticks_to_next (tick_of s buffer).state) ≡ ticks_to_next s
+  lowers : (tick_of s buffer).answer ≡ Ok None → suc (ticks_to_next (tick_of s buffer).state) ≡ ticks_to_next s
   unfolding tick_told
   lowers e =
       let (w, more) = (ticks.quiet s buffer).0 e in
-      let passed = ticks.passes s buffer (ap (λ (x : TickAnswer). (tick_told x).refusal) e) in
+      let passed = ticks.passes s buffer (ap (λ (x : Result (Option ℕ) SendRefusal). (tick_told x).refusal) e) in
       let after = well (tick_of s buffer).state (ticks.stays s buffer w) ∙ ap (λ (x : State). x.next) passed ∙ left more in
       omega (arith, after, well s w, more)
 

@@ -1,9 +1,8 @@
 -- The ticks to the next CCM. The paper, "A tick": every period's last tick sends a CCM. Definitions and the statement only.
-use Rattle.std.specs.Prelude.{ℕ, suc, ◌≤◌, ◌≡◌, List, cond, ◌↔◌, length}
+use Rattle.std.specs.Prelude.{ℕ, suc, ◌≤◌, ◌≡◌, List, cond, ◌↔◌, length, Ok, Some, None}
 use Rattle.state_view.specs.State.{State}
 use Rattle.state_view.specs.WellFormed.{WellFormed, well_formed}
 use Rattle.message_ccm.specs.Continuity.{ccm_length}
-use Rattle.call_send_answer.specs.declared.TickAnswer.TheVariants.{Quiet, Sent}
 use Rattle.call_tick.specs.Tick.{tick_of}
 
 -- the state's own count, the tick that sends counted; 0 where the state is not well formed
@@ -15,5 +14,5 @@ ticks_to_next s = cond (well_formed s) s.next 0
 pub record CountsDown : Type 0 where
   pub none : (s : State) → (ticks_to_next s ≡ 0) ↔ (WellFormed s → ⊥)
   pub sends : (s : State) (buffer : List ℕ)
-      → ((tick_of s buffer).answer ≡ Sent ccm_length) ↔ ((ticks_to_next s ≡ 1) × (89 ≤ length buffer))
-  pub lowers : (s : State) (buffer : List ℕ) → (tick_of s buffer).answer ≡ Quiet → suc (ticks_to_next (tick_of s buffer).state) ≡ ticks_to_next s
+      → ((tick_of s buffer).answer ≡ Ok (Some ccm_length)) ↔ ((ticks_to_next s ≡ 1) × (89 ≤ length buffer))
+  pub lowers : (s : State) (buffer : List ℕ) → (tick_of s buffer).answer ≡ Ok None → suc (ticks_to_next (tick_of s buffer).state) ≡ ticks_to_next s

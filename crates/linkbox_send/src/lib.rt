@@ -20,8 +20,8 @@ use call_send_answer::{tell_dmm, tell_lmm, tell_tick};
 use call_send_dmm::send_dmm;
 use call_send_lmm::send_lmm;
 use message_parts::parts::WrittenTold;
-use state_settings::{Names, Set, Slots};
-use state_view::{NEXT, Run, Totals};
+use state_settings::{LentSettings, Names, Set, Slots};
+use state_view::{LentState, NEXT, Run, Totals, lend};
 use state_well_formed::is_well_formed;
 
 // A tick; the last of a period writes a CCM into the front of the buffer.
@@ -39,7 +39,14 @@ pub fn linkbox_raw_tick(
         told_by tick_told (tick_of (before set names ids timers.old rdi.now run.old totals.now) out.old) }
     ensures whole { Whole run.new totals.now }
 {
-    let answer = call_tick::tick(set, names, ids, timers, rdi, run, totals, out);
+    let answer = call_tick::tick(
+        LentSettings { set, names, ids },
+        timers,
+        rdi,
+        run,
+        totals,
+        out,
+    );
     tell_tick(answer)
 }
 
@@ -57,7 +64,10 @@ pub fn linkbox_raw_send_lmm(
     ensures { ended result (before set names ids timers.now rdi.now run.now totals.now) out.new ≡
         told_by lmm_told (send_lmm (before set names ids timers.now rdi.now run.now totals.now) out.old) }
 {
-    let answer = send_lmm(set, names, ids, timers, rdi, run, totals, out);
+    let answer = send_lmm(
+        lend(LentSettings { set, names, ids }, timers, rdi, run, totals),
+        out,
+    );
     tell_lmm(answer)
 }
 
@@ -77,7 +87,11 @@ pub fn linkbox_raw_send_dmm(
         told_by dmm_told (send_dmm (before set names ids timers.now rdi.now run.now totals.now) stamp out.old) }
     ensures wire { Wire stamp }
 {
-    let answer = send_dmm(set, names, ids, timers, rdi, run, totals, stamp, out);
+    let answer = send_dmm(
+        lend(LentSettings { set, names, ids }, timers, rdi, run, totals),
+        stamp,
+        out,
+    );
     tell_dmm(answer)
 }
 
@@ -93,7 +107,14 @@ pub fn linkbox_raw_ticks_to_next(
 ) -> u32
     ensures { result ≡ ticks_to_next (before set names ids timers.now rdi.now run.now totals.now) }
 {
-    if !is_well_formed(set, names, ids, timers, rdi, run, totals) {
+    let settings = LentSettings { set, names, ids };
+    if !is_well_formed(LentState {
+        settings,
+        timers,
+        rdi,
+        run,
+        totals,
+    }) {
         return 0;
     }
     run[NEXT]

@@ -16,8 +16,8 @@ ghost use Rattle.linkbox_state.specs.Abi.{box_octets};
 
 use call_conditions::ConditionsTold;
 use call_setting::NewBox;
-use state_settings::{NAMES, Names, PEERS, SET, Set, Slots};
-use state_view::{RUN, Run, TOTALS, Totals};
+use state_settings::{LentSettings, NAMES, Names, PEERS, SET, Set, Slots};
+use state_view::{RUN, Run, TOTALS, Totals, lend};
 
 // A new setting, from settings that are only read. The caller takes the new state, or keeps its own where it is refused.
 pub fn linkbox_raw_new_setting(set: &Set, names: &Names, ids: &Slots) -> NewBox
@@ -41,7 +41,7 @@ pub fn linkbox_raw_clear(
         told_by (λ answer. (clear_told answer).refusal) (clear_of (before set names ids timers.now rdi.now run.old totals.old)) }
     ensures whole { Whole run.new totals.new }
 {
-    let answer = call_clear::clear(set, names, ids, timers, rdi, run, totals);
+    let answer = call_clear::clear(LentSettings { set, names, ids }, timers, rdi, run, totals);
     let told = call_clear::tell(answer);
     told.refusal
 }
@@ -58,7 +58,8 @@ pub fn linkbox_raw_conditions(
 ) -> ConditionsTold
     ensures { result ≡ conditions_of (before set names ids timers.now rdi.now run.now totals.now) }
 {
-    call_conditions::conditions(set, names, ids, timers, rdi, run, totals)
+    let settings = LentSettings { set, names, ids };
+    call_conditions::conditions(lend(settings, timers, rdi, run, totals))
 }
 
 // How many octets a box has: its words of four octets, its names, its totals of eight, and no padding. It is the archive's own number, so

@@ -6,8 +6,11 @@ use native.Mathlib.Omega.{arith}
 use mathlib.Core.Bool.{Bool, true, false}
 use lib.Dec.{eqb}
 use lib.ListN.{length, length-map}
-use Rattle.loss_reading.specs.declared.LossAnswer.{LossAnswer}
-use Rattle.loss_reading.specs.declared.LossAnswer.TheVariants.{NotWellFormed, Full, First, Measured}
+use Rattle.std.specs.Prelude.{Result, Ok, Err, Option, Some, None}
+use Rattle.loss_reading.specs.Losses.{losses_of}
+use Rattle.loss_reading.specs.declared.LossRefusal.{LossRefusal}
+use Rattle.loss_reading.specs.declared.Losses.{Losses}
+use Rattle.loss_reading.specs.declared.LossRefusal.TheVariants.{NotWellFormed, Full}
 use Rattle.loss_session.specs.Session.{LossEnd, near, far, cleared_session, most_readings}
 use Rattle.loss_reading.specs.Reading.{after_reading}
 use Rattle.loss_account.specs.Account.{lost, losses}
@@ -16,29 +19,29 @@ use Rattle.loss_account.specs.Demand3.{shown, measurements, accounted_both, Dema
 use Rattle.loss_account.proofs.Meets.{meets}
 
 -- an answer from what it says of the two directions: `which` tells one refusal from the other; two that do not fit together never come up
-abbrev which : Bool → LossAnswer
-which true = Full
-which false = NotWellFormed
+abbrev which : Bool → Result (Option Losses) LossRefusal
+which true = Err Full
+which false = Err NotWellFormed
 
-abbrev joined : Seen → Seen → LossAnswer
+abbrev joined : Seen → Seen → Result (Option Losses) LossRefusal
 joined (refused n) f = which (eqb n 5)
-joined kept f = First
-joined (loss n) (loss f) = Measured n f
-joined (loss n) kept = First
-joined (loss n) (refused k) = First
+joined kept f = Ok None
+joined (loss n) (loss f) = Ok (Some (losses_of n f))
+joined (loss n) kept = Ok None
+joined (loss n) (refused k) = Ok None
 
-abbrev pub pairs : List Seen → List Seen → List LossAnswer
+abbrev pub pairs : List Seen → List Seen → List (Result (Option Losses) LossRefusal)
 pairs [] ys = []
 pairs (x ∷ xs) [] = []
 pairs (x ∷ xs) (y ∷ ys) = joined x y ∷ pairs xs ys
 
-joined-seen : (a : LossAnswer) → joined (seen near a) (seen far a) ≡ a
-joined-seen NotWellFormed = refl
-joined-seen Full = refl
-joined-seen First = refl
-joined-seen (Measured n f) = refl
+joined-seen : (a : Result (Option Losses) LossRefusal) → joined (seen near a) (seen far a) ≡ a
+joined-seen (Err NotWellFormed) = refl
+joined-seen (Err Full) = refl
+joined-seen (Ok None) = refl
+joined-seen (Ok (Some l)) = refl
 
-pub pairs-seen : (xs : List LossAnswer) → pairs (map (seen near) xs) (map (seen far) xs) ≡ xs
+pub pairs-seen : (xs : List (Result (Option Losses) LossRefusal)) → pairs (map (seen near) xs) (map (seen far) xs) ≡ xs
 pairs-seen [] = refl
 pairs-seen (x ∷ xs) = ap₂ ◌∷◌ (joined-seen x) (pairs-seen xs)
 
@@ -54,13 +57,13 @@ pairs-losses : (t : Counts) (ts : List Counts)
 unfolding losses measurements
 pairs-losses t [] = refl
 pairs-losses t (u ∷ us) =
-    ap (λ (l : List LossAnswer). Measured (lost (truth_of near t) (truth_of near u)) (lost (truth_of far t) (truth_of far u)) ∷ l)
+    ap (λ (l : List (Result (Option Losses) LossRefusal)). Ok (Some (losses_of (lost (truth_of near t) (truth_of near u)) (lost (truth_of far t) (truth_of far u)))) ∷ l)
     (pairs-losses u us)
 
 pairs_account : (ts : List Counts) → pairs (accounted (map (truth_of near) ts)) (accounted (map (truth_of far) ts)) ≡ accounted_both ts
 unfolding accounted accounted_both
 pairs_account [] = refl
-pairs_account (t ∷ ts) = ap (λ (l : List LossAnswer). First ∷ l) (pairs-losses t ts)
+pairs_account (t ∷ ts) = ap (λ (l : List (Result (Option Losses) LossRefusal)). (Ok None) ∷ l) (pairs-losses t ts)
 
 pub both : (f : Step) → Demand3 f → Demand3Both f
 both f m ts few steady =

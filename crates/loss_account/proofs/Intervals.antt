@@ -8,10 +8,11 @@ use native.Mathlib.Nat.{add-zero}
 use lib.Dec.{eqb}
 use lib.ListN.{length}
 use borrow.Author.Tests.{eqb-true, eqb-false}
+use Rattle.std.specs.Prelude.{Err}
 use Rattle.base_clock.specs.Run.{after}
 use Rattle.loss_session.specs.declared.Readings.{Readings}
 use Rattle.loss_session.specs.declared.LossSession.{LossSession}
-use Rattle.loss_reading.specs.declared.LossAnswer.TheVariants.{Full}
+use Rattle.loss_reading.specs.declared.LossRefusal.TheVariants.{Full}
 use Rattle.loss_session.specs.Session.{cleared_session, WellFormed, most_intervals, most_readings}
 use Rattle.loss_reading.specs.Reading.{first_of, measured_of, after_reading}
 use Rattle.loss_session.proofs.Laws.{well, cleared_well}
@@ -33,7 +34,7 @@ module _ (n : ℕ) (s : LossSession) (h : Reach n s) (r : Readings) where
       let e = measures few in
       record { fine = stays s r h.fine; held = rw e h.held; count = rw e (omega (arith, h.count)) }
 
-  stops : n ≡ most_intervals → after_reading s r ≡ record { answer = Full; session = s }
+  stops : n ≡ most_intervals → after_reading s r ≡ record { answer = Err Full; session = s }
   stops full = reading-full s r ((well s).1 h.fine) (λ z. omega (arith, h.held)) (h.count ∙ full)
 
 pub starts : (r : Readings) → after_reading cleared_session r ≡ first_of cleared_session r
@@ -72,7 +73,7 @@ intervals [] few = refl
 intervals (r ∷ rs) few = omega (arith, (counts rs 0 (after_reading cleared_session r).session (started r) (omega arith)).count)
 
 pub later : (rs : List Readings) (r : Readings) → most_readings ≤ length rs
-    → after_reading (leaves after_reading cleared_session rs) r ≡ record { answer = Full; session = leaves after_reading cleared_session rs }
+    → after_reading (leaves after_reading cleared_session rs) r ≡ record { answer = Err Full; session = leaves after_reading cleared_session rs }
 unfolding after
 later [] r many = absurd (omega arith)
 later (q ∷ rs) r many =

@@ -9,12 +9,14 @@
 -- which is given a list of readings; there they are about a box, which is given calls, and whose readings are found in its calls. Here the
 -- first reading is answered with "kept"; there the first reply is answered with losses of 0 and 0. There are two because the lent session
 -- and a month worked again have no box; the proof of the other one uses this one.
-use Rattle.std.specs.Prelude.{ℕ, ◌-◌, ◌%◌, ◌^◌, ◌≤◌, ◌<◌, ◌≡◌, List, [], ◌∷◌, map, ℤ, length}
+use Rattle.loss_reading.specs.Losses.{losses_of}
+use Rattle.std.specs.Prelude.{ℕ, ◌-◌, ◌%◌, ◌^◌, ◌≤◌, ◌<◌, ◌≡◌, List, [], ◌∷◌, map, ℤ, length, Result, Ok, Err, Option, Some, None}
 use Rattle.base_clock.specs.Run.{after}
 use Rattle.loss_session.specs.declared.Readings.{Readings}
 use Rattle.loss_session.specs.declared.LossSession.{LossSession}
-use Rattle.loss_reading.specs.declared.LossAnswer.{LossAnswer}
-use Rattle.loss_reading.specs.declared.LossAnswer.TheVariants.{NotWellFormed, Full, First, Measured}
+use Rattle.loss_reading.specs.declared.LossRefusal.{LossRefusal}
+use Rattle.loss_reading.specs.declared.Losses.{Losses}
+use Rattle.loss_reading.specs.declared.LossRefusal.TheVariants.{NotWellFormed, Full}
 use Rattle.loss_reading.specs.declared.Updated.{Updated}
 use Rattle.loss_session.specs.Session.{LossEnd, near, far, sent_of, received_of, total_of, cleared_session, most_readings}
 use Rattle.loss_account.specs.Account.{Truth, Sound, lost, losses, total}
@@ -23,7 +25,7 @@ abbrev pub Step : Type 0
 Step = LossSession → Readings → Updated
 
 -- a run: each reading is given to the session that the last one left
-unfoldable pub answers : Step → LossSession → List Readings → List LossAnswer
+unfoldable pub answers : Step → LossSession → List Readings → List (Result (Option Losses) LossRefusal)
 answers f s [] = []
 answers f s (r ∷ rs) = (f s r).answer ∷ answers f (f s r).session rs
 
@@ -38,12 +40,12 @@ pub data Seen : Type 0 where
   kept : Seen
   loss : ℤ → Seen
 
-abbrev pub seen : LossEnd → LossAnswer → Seen
-seen d NotWellFormed = refused 2
-seen d Full = refused 5
-seen d First = kept
-seen near (Measured n f) = loss n
-seen far (Measured n f) = loss f
+abbrev pub seen : LossEnd → Result (Option Losses) LossRefusal → Seen
+seen d (Err NotWellFormed) = refused 2
+seen d (Err Full) = refused 5
+seen d (Ok None) = kept
+seen near (Ok (Some l)) = loss l.near
+seen far (Ok (Some l)) = loss l.far
 
 -- what the account sees: the first reading is only kept, each later one ends an interval
 unfoldable pub accounted : List Truth → List Seen
@@ -71,7 +73,7 @@ pub record Demand3 (f : Step) : Type 0 where
   pub intervals : (rs : List Readings) → length rs ≤ most_readings → (leaves f cleared_session rs).intervals ≡ length rs - 1
   -- after 1,000,000,001 readings every further one is refused with 5 and changes nothing, whatever the readings
   pub later : (rs : List Readings) (r : Readings) → most_readings ≤ length rs
-      → f (leaves f cleared_session rs) r ≡ record { answer = Full; session = leaves f cleared_session rs }
+      → f (leaves f cleared_session rs) r ≡ record { answer = Err Full; session = leaves f cleared_session rs }
 
 -- ── both directions ──
 
@@ -95,13 +97,13 @@ abbrev pub Steady : List Counts → Type 0
 Steady ts = (d : LossEnd) → Sound (map (truth_of d) ts)
 
 -- the account's answers: the first reading kept, then both losses of each interval
-unfoldable pub measurements : Counts → List Counts → List LossAnswer
+unfoldable pub measurements : Counts → List Counts → List (Result (Option Losses) LossRefusal)
 measurements t [] = []
-measurements t (u ∷ us) = Measured (lost (truth_of near t) (truth_of near u)) (lost (truth_of far t) (truth_of far u)) ∷ measurements u us
+measurements t (u ∷ us) = Ok (Some (losses_of (lost (truth_of near t) (truth_of near u)) (lost (truth_of far t) (truth_of far u)))) ∷ measurements u us
 
-unfoldable pub accounted_both : List Counts → List LossAnswer
+unfoldable pub accounted_both : List Counts → List (Result (Option Losses) LossRefusal)
 accounted_both [] = []
-accounted_both (t ∷ ts) = First ∷ measurements t ts
+accounted_both (t ∷ ts) = Ok None ∷ measurements t ts
 
 pub record BothAgree (f : Step) (ts : List Counts) : Type 0 where
   pub results : answers f cleared_session (map shown ts) ≡ accounted_both ts

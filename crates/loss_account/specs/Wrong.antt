@@ -1,23 +1,25 @@
 -- Steps that get it wrong, each as a box has done or could do. proofs/Refuted.antt shows of each, by readings that are written out, that it
 -- does not meet demand 3. Definitions and the statement only.
-use Rattle.std.specs.Prelude.{ℕ, ◌+◌, ◌-◌, cond, eqb, ℤ, pos, negsuc, ◌-ℤ◌}
+use Rattle.loss_reading.specs.Losses.{losses_of}
+use Rattle.std.specs.Prelude.{ℕ, ◌+◌, ◌-◌, cond, eqb, ℤ, pos, negsuc, ◌-ℤ◌, Result, Ok, Err, Option, Some, None}
 use Rattle.loss_session.specs.Session.{most_intervals}
 use Rattle.loss_session.specs.declared.Readings.{Readings}
 use Rattle.loss_session.specs.declared.LossSession.{LossSession}
-use Rattle.loss_reading.specs.declared.LossAnswer.{LossAnswer}
-use Rattle.loss_reading.specs.declared.LossAnswer.TheVariants.{NotWellFormed, Full, First, Measured}
+use Rattle.loss_reading.specs.declared.LossRefusal.{LossRefusal}
+use Rattle.loss_reading.specs.declared.Losses.{Losses}
+use Rattle.loss_reading.specs.declared.LossRefusal.TheVariants.{NotWellFormed, Full}
 use Rattle.loss_reading.specs.Reading.{after_reading}
 use Rattle.loss_account.specs.Demand3.{Step, Demand3}
 
 -- changes nothing
 abbrev pub idle : Step
-idle s r = record { answer = First; session = s }
+idle s r = record { answer = Ok None; session = s }
 
 -- measures the first interval and then says its result again
 abbrev pub repeats : Step
 repeats s r =
     cond (eqb s.intervals 0) (after_reading s r)
-    (record { answer = Measured s.near s.far; session = record { kept = s.kept; intervals = s.intervals + 1; last = r; near = s.near; far = s.far } })
+    (record { answer = Ok (Some (losses_of s.near s.far)); session = record { kept = s.kept; intervals = s.intervals + 1; last = r; near = s.near; far = s.far } })
 
 -- answers right, and invents the number of intervals
 abbrev pub invents : Step
@@ -26,13 +28,13 @@ invents s r =
     record { answer = u.answer; session = record { kept = u.session.kept; intervals = 7; last = u.session.last; near = u.session.near; far = u.session.far } }
 
 -- what a step answers, changed in each measured pair
-abbrev retold : (ℤ → ℤ) → (ℤ → ℤ) → LossAnswer → LossAnswer
-retold n f NotWellFormed = NotWellFormed
-retold n f Full = Full
-retold n f First = First
-retold n f (Measured x y) = Measured (n x) (f y)
+abbrev retold : (ℤ → ℤ) → (ℤ → ℤ) → Result (Option Losses) LossRefusal → Result (Option Losses) LossRefusal
+retold n f (Err NotWellFormed) = Err NotWellFormed
+retold n f (Err Full) = Err Full
+retold n f (Ok None) = Ok None
+retold n f (Ok (Some l)) = Ok (Some (losses_of (n l.near) (f l.far)))
 
-abbrev answering : (LossSession → Readings → LossAnswer → LossAnswer) → Step
+abbrev answering : (LossSession → Readings → Result (Option Losses) LossRefusal → Result (Option Losses) LossRefusal) → Step
 answering change s r = record { answer = change s r (after_reading s r).answer; session = (after_reading s r).session }
 
 -- keeps a loss without its sign, in 32 bits: -1 is 4,294,967,295
@@ -54,21 +56,21 @@ wrapless =
     retold (λ x. plain s.last.txb r.txb s.last.ours r.ours) (λ y. plain s.last.txf r.txf s.last.rxf r.rxf) a)
 
 -- near and far exchanged
-abbrev swapped : LossAnswer → LossAnswer
-swapped NotWellFormed = NotWellFormed
-swapped Full = Full
-swapped First = First
-swapped (Measured x y) = Measured y x
+abbrev swapped : Result (Option Losses) LossRefusal → Result (Option Losses) LossRefusal
+swapped (Err NotWellFormed) = Err NotWellFormed
+swapped (Err Full) = Err Full
+swapped (Ok None) = Ok None
+swapped (Ok (Some l)) = Ok (Some (losses_of l.far l.near))
 
 abbrev pub crossed : Step
 crossed = answering (λ s r a. swapped a)
 
 -- takes the last interval's loss for a total
-abbrev last_only : LossAnswer → LossSession → LossSession
-last_only NotWellFormed s = s
-last_only Full s = s
-last_only First s = s
-last_only (Measured x y) s = record { kept = s.kept; intervals = s.intervals; last = s.last; near = x; far = y }
+abbrev last_only : Result (Option Losses) LossRefusal → LossSession → LossSession
+last_only (Err NotWellFormed) s = s
+last_only (Err Full) s = s
+last_only (Ok None) s = s
+last_only (Ok (Some l)) s = record { kept = s.kept; intervals = s.intervals; last = s.last; near = l.near; far = l.far }
 
 abbrev pub forgetful : Step
 forgetful s r = record { answer = (after_reading s r).answer; session = last_only (after_reading s r).answer (after_reading s r).session }
@@ -77,7 +79,7 @@ forgetful s r = record { answer = (after_reading s r).answer; session = last_onl
 abbrev pub renewing : Step
 renewing s r =
     cond (eqb s.intervals most_intervals)
-    (record { answer = Full; session = record { kept = s.kept; intervals = s.intervals; last = r; near = s.near; far = s.far } })
+    (record { answer = Err Full; session = record { kept = s.kept; intervals = s.intervals; last = r; near = s.near; far = s.far } })
     (after_reading s r)
 
 -- eight wrong steps do not meet the demand, each by readings that are written out: among them one that measures the first interval and

@@ -9,7 +9,7 @@ ghost use Rattle.loss_growth.specs.Growth.{growth, loss_between};
 fn growth_of(earlier: u32, later: u32) -> u32
     ensures { result ≡ growth (2 ^ 32) earlier later }
 {
-    std::num::wrapping_sub_u32(later, earlier)
+    later.wrapping_sub(earlier)
 }
 
 // a less b, sign included.

@@ -7,6 +7,7 @@ use native.Mathlib.Omega.{arith}
 use lib.Dec.{eqb}
 use lib.IntN.{nat_abs, ◌+ℤ◌}
 use borrow.Author.Tests.{eqb-true, eqb-false, eq-eqb, ne_eqb}
+use Rattle.std.specs.Prelude.{Err}
 use Rattle.base_laws.specs.Tests.{choose}
 use Rattle.base_laws.proofs.Tests.{known, failed}
 use Rattle.base_laws.proofs.Signed.{add-size}
@@ -15,13 +16,13 @@ use Rattle.loss_session.specs.declared.Readings.{Readings}
 use Rattle.loss_session.specs.declared.LossSession.{LossSession}
 use Rattle.loss_session.specs.Session.{LossEnd, near, far, sent_of, received_of, total_of, WellFormed, well_formed, most_intervals}
 use Rattle.loss_session.proofs.Laws.{well}
-use Rattle.loss_reading.specs.declared.LossAnswer.TheVariants.{NotWellFormed, Full}
+use Rattle.loss_reading.specs.declared.LossRefusal.TheVariants.{NotWellFormed, Full}
 use Rattle.loss_reading.specs.Reading.{loss_on, unchanged, first_of, measured_of, after_reading}
 
 -- ── one more reading, case by case ──
 
 module _ (s : LossSession) (r : Readings) where
-  pub reading-bad : well_formed s ≡ false → after_reading s r ≡ unchanged NotWellFormed s
+  pub reading-bad : well_formed s ≡ false → after_reading s r ≡ unchanged (Err NotWellFormed) s
   unfolding after_reading choose
   reading-bad w = rw w
 
@@ -30,7 +31,7 @@ module _ (s : LossSession) (r : Readings) where
   reading-first w k = rw (w, eq-eqb s.kept 0 k)
 
   module _ (w : well_formed s ≡ true) (k : s.kept ≡ 0 → ⊥) where
-    pub reading-full : s.intervals ≡ most_intervals → after_reading s r ≡ unchanged Full s
+    pub reading-full : s.intervals ≡ most_intervals → after_reading s r ≡ unchanged (Err Full) s
     unfolding after_reading choose
     reading-full e = rw (w, ne_eqb s.kept 0 k, eq-eqb s.intervals most_intervals e)
 
@@ -40,9 +41,9 @@ module _ (s : LossSession) (r : Readings) where
 
 -- a session is one of these four, and the reading is answered so
 pub data Case (s : LossSession) (r : Readings) : Type 0 where
-  bad : (WellFormed s → ⊥) → after_reading s r ≡ unchanged NotWellFormed s → Case s r
+  bad : (WellFormed s → ⊥) → after_reading s r ≡ unchanged (Err NotWellFormed) s → Case s r
   begins : WellFormed s → s.kept ≡ 0 → after_reading s r ≡ first_of s r → Case s r
-  stops : WellFormed s → s.kept ≡ 1 → s.intervals ≡ most_intervals → after_reading s r ≡ unchanged Full s → Case s r
+  stops : WellFormed s → s.kept ≡ 1 → s.intervals ≡ most_intervals → after_reading s r ≡ unchanged (Err Full) s → Case s r
   measures : WellFormed s → s.kept ≡ 1 → s.intervals < most_intervals → after_reading s r ≡ measured_of s r → Case s r
 
 pub cases : (s : LossSession) (r : Readings) → Case s r

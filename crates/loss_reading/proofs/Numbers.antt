@@ -4,12 +4,15 @@ use lib.IntN.{pos}
 use mathlib.Core.Bool.{not}
 use mathlib.Core.List.{[], ◌∷◌}
 use lib.Dec.{eqb}
+use Rattle.std.specs.Prelude.{Result, Ok, Err, Option, Some, None}
+use Rattle.loss_reading.specs.Losses.{losses_of}
 use Rattle.base_laws.specs.Tests.{choose}
 use Rattle.base_laws.proofs.Tests.{choose-map}
 use Rattle.loss_session.specs.declared.Readings.{Readings}
 use Rattle.loss_session.specs.declared.LossSession.{LossSession}
-use Rattle.loss_reading.specs.declared.LossAnswer.{LossAnswer}
-use Rattle.loss_reading.specs.declared.LossAnswer.TheVariants.{NotWellFormed, Full, First, Measured}
+use Rattle.loss_reading.specs.declared.LossRefusal.{LossRefusal}
+use Rattle.loss_reading.specs.declared.Losses.{Losses}
+use Rattle.loss_reading.specs.declared.LossRefusal.TheVariants.{NotWellFormed, Full}
 use Rattle.loss_reading.specs.declared.Updated.{Updated}
 use Rattle.loss_session.specs.Session.{well_formed, most_intervals}
 use Rattle.loss_reading.specs.Reading.{unchanged, first_of, measured_of, after_reading}
@@ -20,16 +23,16 @@ pub told-numbers : (s : LossSession) (r : Readings) → loss_told (after_reading
 unfolding after_reading loss_numbers choose loss_told
 told-numbers s r =
     choose-map (λ (u : Updated). loss_told u.answer)
-    ((not (well_formed s), unchanged NotWellFormed s) ∷ (eqb s.kept 0, first_of s r) ∷ (eqb s.intervals most_intervals, unchanged Full s)
+    ((not (well_formed s), unchanged (Err NotWellFormed) s) ∷ (eqb s.kept 0, first_of s r) ∷ (eqb s.intervals most_intervals, unchanged (Err Full) s)
     ∷ [])
     (measured_of s r)
 
-zeros : (a : LossAnswer) → (((loss_told a).refusal ≡ 0) → ⊥) → ((loss_told a).near ≡ pos 0) × ((loss_told a).far ≡ pos 0)
+zeros : (a : Result (Option Losses) LossRefusal) → (((loss_told a).refusal ≡ 0) → ⊥) → ((loss_told a).near ≡ pos 0) × ((loss_told a).far ≡ pos 0)
 unfolding loss_told
-zeros NotWellFormed h = (refl, refl)
-zeros Full h = (refl, refl)
-zeros First h = (refl, refl)
-zeros (Measured n f) h = absurd (h refl)
+zeros (Err NotWellFormed) h = (refl, refl)
+zeros (Err Full) h = (refl, refl)
+zeros (Ok None) h = (refl, refl)
+zeros (Ok (Some l)) h = absurd (h refl)
 
 pub loss-numbers : LossNumbers
 loss-numbers = record { zeros = zeros }

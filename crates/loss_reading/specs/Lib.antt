@@ -1,2 +1,3 @@
+pub mod Losses
 pub mod Reading
 pub mod Told

@@ -10,27 +10,30 @@ ghost use Rattle.loss_reading.specs.Told.{loss_told};
 
 use loss_session::LossSession;
 
-// What one more reading is answered.
+// The losses of the interval that a reading ends: sent less received, in each direction.
 #[derive(Clone, Copy)]
-pub enum LossAnswer {
+pub struct Losses {
+    pub near: i64,
+    pub far: i64,
+}
+
+// Why a reading is not taken.
+#[derive(Clone, Copy)]
+pub enum LossRefusal {
     // Refusal 2: the session is not well formed.
     NotWellFormed,
     // Refusal 5: it would start interval 1,000,000,001.
     Full,
-    // The first reading after a clear, which is only kept.
-    First,
-    // Sent less received in the interval that it ends, in each direction.
-    Measured { near: i64, far: i64 },
 }
 
-// An answer and the session after it.
+// What one more reading is answered, no losses for the first after a clear, which is only kept; and the session after it.
 #[derive(Clone, Copy)]
 pub struct Updated {
-    pub answer: LossAnswer,
+    pub answer: Result<Option<Losses>, LossRefusal>,
     pub session: LossSession,
 }
 
-// An answer in the paper's numbers: the refusal, or 0, and the two results.
+// An answer in the paper's numbers: the refusal, or 0, and the two results. Numbers and no enum: C is given them.
 #[repr(C)]
 #[derive(Clone, Copy)]
 pub struct LossTold {
@@ -40,29 +43,31 @@ pub struct LossTold {
 }
 
 // An answer in the paper's numbers.
-pub fn tell(a: LossAnswer) -> LossTold
+#[tactic(auto, unfolding(crate::specs::Told::loss_told))]
+pub fn tell(a: Result<Option<Losses>, LossRefusal>) -> LossTold
     ensures { result ≡ loss_told a }
 {
+    // by this name and no `From`: lemma `tell_one`, the edits and the pages cite it
     match a {
-        LossAnswer::NotWellFormed => LossTold {
+        Err(LossRefusal::NotWellFormed) => LossTold {
             refusal: 2,
             near: 0,
             far: 0,
         },
-        LossAnswer::Full => LossTold {
+        Err(LossRefusal::Full) => LossTold {
             refusal: 5,
             near: 0,
             far: 0,
         },
-        LossAnswer::First => LossTold {
+        Ok(None) => LossTold {
             refusal: 0,
             near: 0,
             far: 0,
         },
-        LossAnswer::Measured { near, far } => LossTold {
+        Ok(Some(losses)) => LossTold {
             refusal: 0,
-            near,
-            far,
+            near: losses.near,
+            far: losses.far,
         },
     }
 }

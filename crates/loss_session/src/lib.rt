@@ -1,7 +1,7 @@
 // A loss session: its readings, its intervals and its signed totals; cleared, and well formed. Rule 7 of the paper.
 #![tactic(auto)]
 
-ghost use Rattle.std.specs.Prelude.{◌≡◌, nat_abs};
+ghost use Rattle.std.specs.Prelude.{◌≡◌};
 ghost use Rattle.loss_session.specs.Session.{cleared_session, all_zero, well_formed};
 
 // The three counts of a loss reply and our own received count, as the paper names them:
@@ -10,7 +10,7 @@ ghost use Rattle.loss_session.specs.Session.{cleared_session, all_zero, well_for
 //   txb    TxFCb, those that the peer had sent when it answered
 //   ours   those that we had received when the answer came
 #[repr(C)]
-#[derive(Clone, Copy)]
+#[derive(Clone, Copy, Default)]
 pub struct Readings {
     pub txf: u32,
     pub rxf: u32,
@@ -19,9 +19,9 @@ pub struct Readings {
 }
 
 // A loss session: whether a reading is kept (0 or 1), the intervals measured, the reading kept, and both totals. Any content is a
-// value; what is not well formed is refused.
+// value; what is not well formed is refused. Kept is a word beside the reading, and no `Option`: C holds the session.
 #[repr(C)]
-#[derive(Clone, Copy)]
+#[derive(Clone, Copy, Default)]
 pub struct LossSession {
     pub kept: u32,
     pub intervals: u32,
@@ -33,39 +33,18 @@ pub struct LossSession {
 // How many intervals a session counts at most: the definitions have theirs, `most_intervals`.
 pub const MOST_INTERVALS: u32 = 1000000000;
 
-// How large a number is, its sign left out.
-fn size(x: i64) -> u64
-    ensures { result ≡ nat_abs x }
-{
-    if x < 0 {
-        ((-1 - x) as u64) + 1
-    } else {
-        x as u64
-    }
-}
-
 // A session after a clear.
 pub fn cleared() -> LossSession
     ensures { result ≡ cleared_session }
 {
-    LossSession {
-        kept: 0,
-        intervals: 0,
-        last: Readings {
-            txf: 0,
-            rxf: 0,
-            txb: 0,
-            ours: 0,
-        },
-        near: 0,
-        far: 0,
-    }
+    LossSession::default()
 }
 
 // Whether all four counts are 0.
 fn all_zero(r: Readings) -> bool
     ensures { result ≡ all_zero r }
 {
+    // all four at once; a derived `==` tests them in turn
     (r.txf == 0) & (r.rxf == 0) & (r.txb == 0) & (r.ours == 0)
 }
 
@@ -78,10 +57,10 @@ pub fn well_formed(s: LossSession) -> bool
     if MOST_INTERVALS < s.intervals {
         return false;
     }
-    if most < size(s.near) {
+    if most < s.near.unsigned_abs() {
         return false;
     }
-    if most < size(s.far) {
+    if most < s.far.unsigned_abs() {
         return false;
     }
     if s.kept == 1 {

@@ -9,7 +9,7 @@ ghost use Rattle.loss_reading.specs.Reading.{measured_of, after_reading};
 ghost use Rattle.loss_reading.specs.Told.{loss_told, loss_numbers};
 
 use loss_growth::loss_between;
-use loss_reading::{LossAnswer, Updated};
+use loss_reading::{LossRefusal, Losses, Updated};
 use loss_session::{LossSession, MOST_INTERVALS, Readings, well_formed};
 
 // A total carried on.
@@ -35,7 +35,7 @@ fn measured(s: LossSession, r: Readings) -> Updated
     after.far = plus(s.far, far);
     after.intervals = s.intervals + 1;
     Updated {
-        answer: LossAnswer::Measured { near, far },
+        answer: Ok(Some(Losses { near, far })),
         session: after,
     }
 }
@@ -46,7 +46,7 @@ pub fn take_reading(s: LossSession, r: Readings) -> Updated
 {
     if !well_formed(s) {
         return Updated {
-            answer: LossAnswer::NotWellFormed,
+            answer: Err(LossRefusal::NotWellFormed),
             session: s,
         };
     }
@@ -55,13 +55,13 @@ pub fn take_reading(s: LossSession, r: Readings) -> Updated
         next.kept = 1;
         next.last = r;
         return Updated {
-            answer: LossAnswer::First,
+            answer: Ok(None),
             session: next,
         };
     }
     if s.intervals == MOST_INTERVALS {
         return Updated {
-            answer: LossAnswer::Full,
+            answer: Err(LossRefusal::Full),
             session: s,
         };
     }

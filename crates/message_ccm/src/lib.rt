@@ -14,13 +14,14 @@ use base_numbers::write_big;
 use base_octets::copy_octets;
 use frame_head::HEAD_LENGTH;
 use frame_multicast::multicast_of;
-use message_parts::parts::{Written, write_head};
+use message_parts::parts::{WriteRefusal, write_head};
 use state_settings::{LOSSPEER, MEG, NAMES, Names};
 
 // How long a CCM is.
 pub const CCM_LENGTH: usize = 89;
 
-// What a CCM says beside our address and MEG ID: level, RDI (0 or 1), period code, sequence, MEP ID, and the counts
+// What a CCM says beside our address and MEG ID: level, RDI (0 or 1, a number as `base_bits.ccm_flags` takes it), period code, sequence,
+// MEP ID, and the counts
 //   txfcf   TxFCf, the frames that we had sent
 //   rxfcb   RxFCb, those that we had received when the peer's last CCM came
 //   txfcb   TxFCb, those that the peer had sent, as that CCM said
@@ -52,7 +53,7 @@ fn write_ccm_fixed(into: &mut [u8], meg: &[u8], ccm: CcmValues)
 }
 
 // Writes a CCM, 89 octets, version 0, to the multicast address of its level, with our own address and MEG ID.
-pub fn write_ccm(into: &mut [u8], names: &Names, ccm: CcmValues) -> Written
+pub fn write_ccm(into: &mut [u8], names: &Names, ccm: CcmValues) -> Result<usize, WriteRefusal>
     ensures value { (result ≡ written_of (ccm_named names.now ccm) into.old)
         × (written_told result ≡ written_numbers (ccm_named names.now ccm) into.old) }
     ensures into_after { (into.new ≡ buffer_of (ccm_named names.now ccm) into.old)
@@ -60,7 +61,7 @@ pub fn write_ccm(into: &mut [u8], names: &Names, ccm: CcmValues) -> Written
 {
     let all: &[u8] = names;
     if into.len() < CCM_LENGTH {
-        return Written::NoRoom;
+        return Err(WriteRefusal::NoRoom);
     }
     let group = multicast_of(ccm.level);
     copy_octets(into, 0, &group);
@@ -73,5 +74,5 @@ pub fn write_ccm(into: &mut [u8], names: &Names, ccm: CcmValues) -> Written
         70,
     );
     write_ccm_fixed(into, &all[MEG..NAMES], ccm);
-    Written::Octets(CCM_LENGTH)
+    Ok(CCM_LENGTH)
 }

@@ -8,7 +8,7 @@ ghost use Rattle.message_dmr.specs.Dmr.{dmr_octets};
 use base_stamp::Stamp;
 use frame_head::HEAD_LENGTH;
 use message_parts::parts::write_stamp;
-use message_reply::{Replied, write_reply};
+use message_reply::{ReplyRefusal, write_reply};
 
 // Places in a frame: RxTimeStampf and TxTimeStampb.
 const RX_STAMP: usize = HEAD_LENGTH + 12;
@@ -25,20 +25,20 @@ pub fn write_dmr(
     own: [u8; 6],
     receive: Stamp,
     transmit: Stamp,
-) -> Replied
+) -> Result<usize, ReplyRefusal>
     ensures value { (result ≡ replied_of 32 request.now (dmr_octets own receive transmit request.now) into.old)
         × (replied_told result ≡ replied_numbers 32 request.now (dmr_octets own receive transmit request.now) into.old) }
     ensures into_after { into.new ≡
         left_of 32 request.now (dmr_octets own receive transmit request.now) into.old }
 {
     if request.len() < DMM_FIXED {
-        return Replied::CutOff;
+        return Err(ReplyRefusal::CutOff);
     }
     if into.len() < request.len() {
-        return Replied::NoRoom;
+        return Err(ReplyRefusal::NoRoom);
     }
     write_reply(into, request, own, 46);
     write_stamp(into, RX_STAMP, receive);
     write_stamp(into, TX_STAMP, transmit);
-    Replied::Octets(request.len())
+    Ok(request.len())
 }

@@ -9,16 +9,14 @@ use base_octets::copy_octets;
 use base_stamp::Stamp;
 use frame_head::HEAD_LENGTH;
 
-// What writing a message is answered.
+// Why a message is not written. One that is written is in the buffer's first octets, and the answer says how many.
 #[derive(Clone, Copy)]
-pub enum Written {
+pub enum WriteRefusal {
     // Refusal 3: the buffer is shorter than the message.
     NoRoom,
-    // The message is in the buffer's first octets, so many.
-    Octets(usize),
 }
 
-// An answer in the paper's numbers: the refusal, or 0, and the message's length.
+// An answer in the paper's numbers: the refusal, or 0, and the message's length. Numbers and no enum: C is given them.
 #[repr(C)]
 #[derive(Clone, Copy)]
 pub struct WrittenTold {

@@ -2,11 +2,13 @@
 -- is good, holds no TLV, and says what it was given. Assumes nothing.
 use Prim.Native.Nat.{ℕ, ◌+◌, ◌/◌, ◌%◌, ◌≤◌, ◌<◌}
 use mathlib.Core.Path.{◌≡◌, refl, sym, ap, ap₂, ◌∙◌, subst}
-use mathlib.Core.Bool.{true}
+use mathlib.Core.Bool.{Bool, true}
 use mathlib.Core.List.{List, [], ◌∷◌, ◌++◌, append_assoc}
 use native.Mathlib.Omega.{arith}
 use lib.ListN.{length, get_or, length-append}
 use lib.Seq.{get_or-append-add}
+use Rattle.std.specs.Prelude.{false, Result, Ok}
+use Rattle.frame_reader_answer.specs.declared.Bad.{Bad}
 use Rattle.base_laws.specs.Lists.{part}
 use Rattle.base_laws.proofs.Apart.{part-front}
 use Rattle.base_laws.proofs.Parts.{part-behind, part-whole}
@@ -15,15 +17,12 @@ use Rattle.base_numbers.specs.Numbers.{in_octets, octets_lowest_first, big_endia
 use Rattle.frame_opcodes.specs.Opcodes.{rule_of}
 use Rattle.frame_tlvs.specs.declared.Place.{Place}
 use Rattle.frame_tlvs.specs.declared.Place.TheVariants.{End}
-use Rattle.frame_reader_answer.specs.declared.TlvAnswer.{TlvAnswer}
-use Rattle.frame_reader_answer.specs.declared.TlvAnswer.TheVariants.{NoSuch}
 use Rattle.frame_head.specs.Head.{destination_of, source_of, pdu_of, level_of, version_of, opcode_of, flags_of, offset_of, start_of}
 use Rattle.frame_tlvs.specs.Tlvs.{walk_from, is_cut}
 use Rattle.frame_seek.specs.Seek.{whole, in_frame}
 use Rattle.frame_reader.specs.Reader.{answer_at, answer_of}
 use Rattle.frame_seek.proofs.Chain.{through}
 use Rattle.frame_tlvs.proofs.Steps.{ended}
-use Rattle.frame_message_answer.specs.declared.MessageAnswer.TheVariants.{Message}
 use Rattle.frame_message.specs.Good.{Headed, Good}
 use Rattle.frame_message.specs.Message.{period_code, code_good, judged_of, unless_bad, message_of}
 use Rattle.frame_message.specs.Told.{good_opcode}
@@ -100,7 +99,7 @@ module _ (destination source rest : List ℕ) (first op flags offset : ℕ) (w :
   good : Good f
   good = record { headed = fine; ends = ap is_cut (walked 0) }
 
-  bare : (kind : ℕ) → answer_of f kind ≡ NoSuch
+  bare : (kind : ℕ) → answer_of f kind ≡ Ok false
   unfolding answer_of
   bare kind =
       through answer_at f kind
@@ -110,10 +109,10 @@ module _ (destination source rest : List ℕ) (first op flags offset : ℕ) (w :
   opcode-is : good_opcode f ≡ op
   opcode-is = opcode f good (ap (λ (p : List ℕ). code_good (rule_of (opcode_of p)) (period_code (flags_of p))) is ∙ w.g) ∙ ap opcode_of is
 
-  message-is : message_of f ≡ Message op
+  message-is : message_of f ≡ Ok op
   unfolding message_of judged_of
   message-is =
-      ap₂ (λ (a : TlvAnswer) (p : List ℕ). unless_bad a (judged_of (opcode_of p) (flags_of p))) (bare 0) is
+      ap₂ (λ (a : Result Bool Bad) (p : List ℕ). unless_bad a (judged_of (opcode_of p) (flags_of p))) (bare 0) is
       ∙ rw w.g
 
   says : (level version : ℕ) → first / 32 ≡ level → first % 32 ≡ version → Says f destination source level version op flags offset
@@ -131,10 +130,10 @@ module _ (destination source rest : List ℕ) (first op flags offset : ℕ) (w :
 -- all that a message says once it is read
 pub record Read (destination source : List ℕ) (level version first op flags offset : ℕ) (rest f : List ℕ) : Type 0 where
   pub head : Says f destination source level version op flags offset
-  pub message : message_of f ≡ Message op
+  pub message : message_of f ≡ Ok op
   pub opcode : good_opcode f ≡ op
   pub pdu : pdu_of f ≡ first ∷ op ∷ flags ∷ offset ∷ rest
-  pub bare : (kind : ℕ) → answer_of f kind ≡ NoSuch
+  pub bare : (kind : ℕ) → answer_of f kind ≡ Ok false
 
 module _ (destination source rest : List ℕ) (level version op flags offset : ℕ) (v : level < 8) (n : version < 32) where
   pub sent_reads : Made destination source rest op flags offset

@@ -7,6 +7,7 @@ use native.Mathlib.Omega.{arith}
 use lib.Dec.{eqb}
 use borrow.Author.Tests.{le-ltb}
 use lib.ListN.{length, drop}
+use Rattle.std.specs.Prelude.{Ok}
 use Rattle.base_laws.specs.Tests.{choose}
 use Rattle.base_laws.specs.Lists.{part}
 use Rattle.base_numbers.specs.Numbers.{number, big_endian}
@@ -14,7 +15,6 @@ use Rattle.base_stamp.specs.declared.Stamp.{Stamp}
 use Rattle.base_stamp.specs.Stamps.{Wire}
 use Rattle.frame_opcodes.specs.Opcodes.{rule_of}
 use Rattle.frame_head.specs.Head.{pdu_of, word}
-use Rattle.frame_message_answer.specs.declared.MessageAnswer.TheVariants.{Message}
 use Rattle.frame_message.specs.Message.{message_of}
 use Rattle.frame_message.specs.Told.{good_opcode}
 use Rattle.frame_loopback_alarm.specs.Fixed.{transaction_of}
@@ -35,7 +35,7 @@ use Rattle.message_readback.proofs.TwoLaid.{two_replied}
 
 -- ── LBR ──
 
-module _ (own request : List ℕ) (o : length own ≡ 6) (e : message_of request ≡ Message 3) where
+module _ (own request : List ℕ) (o : length own ≡ 6) (e : message_of request ≡ Ok 3) where
   lbr-asked : Request request 3 4
   unfolding rule_of choose
   lbr-asked = requested request 3 4 e (omega arith) refl
@@ -63,7 +63,7 @@ module _ (own request : List ℕ) (o : length own ≡ 6) (e : message_of request
 -- ── LMR ──
 
 module _ (own request : List ℕ) (received sent : ℕ) (o : length own ≡ 6) (hr : Word received) (hs : Word sent)
-    (e : message_of request ≡ Message 43) where
+    (e : message_of request ≡ Ok 43) where
   lmr : Answers own request 42 (lmr_octets own received sent request)
       × (loss_of (lmr_octets own received sent request) ≡ record { txfcf = (loss_of request).txfcf; rxfcf = received; txfcb = sent })
   unfolding lmr_octets loss_of rule_of choose
@@ -86,7 +86,7 @@ module _ (own request : List ℕ) (received sent : ℕ) (o : length own ≡ 6) (
 -- ── DMR ──
 
 module _ (own request : List ℕ) (receive transmit : Stamp) (o : length own ≡ 6) (hr : Wire receive) (ht : Wire transmit)
-    (e : message_of request ≡ Message 47) where
+    (e : message_of request ≡ Ok 47) where
   dmr : Answers own request 46 (dmr_octets own receive transmit request)
       × (delay_of (dmr_octets own receive transmit request)
       ≡ record { txtimestampf = (delay_of request).txtimestampf; rxtimestampf = receive; txtimestampb = transmit })
@@ -120,9 +120,9 @@ uncut : (f : List ℕ) (k n : ℕ) → Request f k n → cut_off n f ≡ false
 uncut f k n q = le-ltb (length f) (18 + n) (omega (arith, q.long))
 
 whole : (request : List ℕ)
-    → (message_of request ≡ Message 3 → cut_off 4 request ≡ false)
-    × (message_of request ≡ Message 43 → cut_off 12 request ≡ false)
-    × (message_of request ≡ Message 47 → cut_off 32 request ≡ false)
+    → (message_of request ≡ Ok 3 → cut_off 4 request ≡ false)
+    × (message_of request ≡ Ok 43 → cut_off 12 request ≡ false)
+    × (message_of request ≡ Ok 47 → cut_off 32 request ≡ false)
 unfolding rule_of choose
 whole f = (
   λ e. uncut f 3 4 (requested f 3 4 e (omega arith) refl),

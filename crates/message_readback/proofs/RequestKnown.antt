@@ -4,9 +4,9 @@ use mathlib.Core.Path.{◌≡◌, sym, ap, ◌∙◌}
 use mathlib.Core.List.{List}
 use native.Mathlib.Omega.{arith}
 use lib.ListN.{length, length-drop}
+use Rattle.std.specs.Prelude.{Ok}
 use Rattle.frame_opcodes.specs.Opcodes.{rule_of}
 use Rattle.frame_head.specs.Head.{pdu_of, opcode_of}
-use Rattle.frame_message_answer.specs.declared.MessageAnswer.TheVariants.{Message}
 use Rattle.frame_message_answer.specs.declared.MessageTold.{MessageTold}
 use Rattle.frame_message.specs.Good.{Good}
 use Rattle.frame_message.specs.Message.{message_of}
@@ -22,7 +22,7 @@ pub record Request (f : List ℕ) (k n : ℕ) : Type 0 where
   pub least : (rule_of (opcode_of (pdu_of f))).least ≡ n
   pub long : 18 + n < length f
 
-pub requested : (f : List ℕ) (k n : ℕ) → message_of f ≡ Message k → 0 < k → (rule_of k).least ≡ n → Request f k n
+pub requested : (f : List ℕ) (k n : ℕ) → message_of f ≡ Ok k → 0 < k → (rule_of k).least ≡ n → Request f k n
 unfolding message_told
 requested f k n e p l =
     let t : good_opcode f ≡ k = ap (λ (t : MessageTold). t.opcode) (sym (agree f) ∙ ap message_told e) in

@@ -1,11 +1,9 @@
 -- What is sent reads back as what it was made of: CCM, LMM, DMM. The order, demand 2, second sentence. Definitions and statements only.
-use Rattle.std.specs.Prelude.{ℕ, ◌≤◌, ◌<◌, ◌≡◌, List, length}
+use Rattle.std.specs.Prelude.{false, ℕ, ◌≤◌, ◌<◌, ◌≡◌, List, length, Ok}
 use Rattle.base_bits.specs.Fields.{ccm_flags}
 use Rattle.base_stamp.specs.declared.Stamp.{Stamp}
 use Rattle.base_stamp.specs.Stamps.{not_given, Wire}
-use Rattle.frame_reader_answer.specs.declared.TlvAnswer.TheVariants.{NoSuch}
 use Rattle.frame_reader.specs.Reader.{answer_of}
-use Rattle.frame_message_answer.specs.declared.MessageAnswer.TheVariants.{Message}
 use Rattle.frame_message.specs.Message.{message_of}
 use Rattle.frame_ccm.specs.Ccm.{ccm_of, meg_of}
 use Rattle.frame_measures.specs.Measures.{loss_of, delay_of}
@@ -33,24 +31,24 @@ pub record CcmGiven (source meg : List ℕ) (c : CcmValues) : Type 0 where
 
 pub record CcmBack (source meg : List ℕ) (c : CcmValues) (f : List ℕ) : Type 0 where
   pub head : Says f (multicast_of c.level) source c.level 0 1 (ccm_flags c.rdi c.period) 70
-  pub message : message_of f ≡ Message 1
+  pub message : message_of f ≡ Ok 1
   pub fields : ccm_of f ≡ record { sequence = c.sequence; mep = c.mep; txfcf = c.txfcf; rxfcb = c.rxfcb; txfcb = c.txfcb; period = c.period; rdi = c.rdi }
   pub name : meg_of f ≡ meg
-  pub bare : (kind : ℕ) → answer_of f kind ≡ NoSuch
+  pub bare : (kind : ℕ) → answer_of f kind ≡ Ok false
 
 -- ── LMM and DMM ──
 
 pub record LmmBack (destination source : List ℕ) (level sent : ℕ) (f : List ℕ) : Type 0 where
   pub head : Says f destination source level 1 43 0 12
-  pub message : message_of f ≡ Message 43
+  pub message : message_of f ≡ Ok 43
   pub fields : loss_of f ≡ record { txfcf = sent; rxfcf = 0; txfcb = 0 }
-  pub bare : (kind : ℕ) → answer_of f kind ≡ NoSuch
+  pub bare : (kind : ℕ) → answer_of f kind ≡ Ok false
 
 pub record DmmBack (destination source : List ℕ) (level : ℕ) (stamp : Stamp) (f : List ℕ) : Type 0 where
   pub head : Says f destination source level 1 47 0 32
-  pub message : message_of f ≡ Message 47
+  pub message : message_of f ≡ Ok 47
   pub fields : delay_of f ≡ record { txtimestampf = stamp; rxtimestampf = not_given; txtimestampb = not_given }
-  pub bare : (kind : ℕ) → answer_of f kind ≡ NoSuch
+  pub bare : (kind : ℕ) → answer_of f kind ≡ Ok false
 
 -- ── each of them ──
 

@@ -20,15 +20,13 @@ const OPCODE: usize = HEAD_LENGTH + 1;
 // Where the PDU's first four octets end, the opcode among them.
 const PDU_HEAD_END: usize = HEAD_LENGTH + 4;
 
-// What writing a reply is answered.
+// Why a reply is not written. One that is written is in the buffer's first octets, and the answer says how many.
 #[derive(Clone, Copy)]
-pub enum Replied {
+pub enum ReplyRefusal {
     // D5: the request ends before its fixed part does. Never given to a frame that was judged before.
     CutOff,
     // Refusal 3: the buffer is shorter than the reply.
     NoRoom,
-    // The reply is in the buffer's first octets, so many.
-    Octets(usize),
 }
 
 // The octets that are copied at a time. No request is shorter, since all have the PDU's first four octets.
@@ -50,10 +48,8 @@ fn copy_request(into: &mut [u8], request: &[u8])
     ensures { into.new ≡ laid 0 request.now into.old }
 {
     let last = request.len() - BLOCK;
-    let mut at: usize = 0;
-    while at < last {
+    for at in (0..last).step_by(BLOCK) {
         copy_block(into, request, at);
-        at += BLOCK;
     }
     copy_block(into, request, last);
 }

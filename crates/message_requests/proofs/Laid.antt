@@ -5,6 +5,7 @@ use mathlib.Core.Path.{◌≡◌, ◌∙◌}
 use mathlib.Core.List.{List, ◌++◌}
 use native.Mathlib.Omega.{arith}
 use lib.ListN.{length, replicate, length-append, length-replicate}
+use Rattle.std.specs.Prelude.{Result, Ok, Err}
 use Rattle.base_laws.specs.Lists.{laid}
 use Rattle.base_laws.proofs.Pieces.{first, more}
 use Rattle.base_numbers.specs.Numbers.{in_octets, big_endian}
@@ -13,10 +14,9 @@ use Rattle.base_bits.specs.Fields.{first_octet}
 use Rattle.base_stamp.specs.declared.Stamp.{Stamp}
 use Rattle.state_settings.proofs.Shape.{own_long, peer-long}
 use Rattle.state_settings.specs.Settings.{address_at, name_octets}
-use Rattle.state_settings.proofs.Shape.{own_long, peer-long}
 use Rattle.message_parts.specs.Messages.{count, stamp_octets, after_destination}
-use Rattle.message_parts.specs.declared.parts.Written.{Written}
-use Rattle.message_parts.specs.declared.parts.Written.TheVariants.{NoRoom, Octets}
+use Rattle.message_parts.specs.declared.parts.WriteRefusal.{WriteRefusal}
+use Rattle.message_parts.specs.declared.parts.WriteRefusal.TheVariants.{NoRoom}
 use Rattle.message_parts.specs.Buffer.{written_of, buffer_of, written_told, written_numbers}
 use Rattle.message_parts.proofs.Laid.{count_long, stamp-long, after-long, zeros}
 use Rattle.message_parts.proofs.Numbers.{no_room_lem, room}
@@ -61,14 +61,14 @@ module _ (names : List ℕ) (whole : length names ≡ name_octets) (level opcode
   message = request_octets peer own (first_octet level 1) opcode offset value n k
 
   -- the answer and its numbers; what the buffer then has, and the length
-  abbrev Wrote : Written → List ℕ → Type 0
+  abbrev Wrote : Result ℕ WriteRefusal → List ℕ → Type 0
   Wrote r x =
       ((r ≡ written_of message l) × (written_told r ≡ written_numbers message l)) × ((x ≡ buffer_of message l) × (length message ≡ 18 + n + k))
 
   long : length message ≡ 18 + n + k
   long = request_long peer own (first_octet level 1) opcode offset value n k (peer-long names whole) (own_long names whole) hv
 
-  pub short : length l < 18 + n + k → Wrote NoRoom l
+  pub short : length l < 18 + n + k → Wrote (Err NoRoom) l
   short h = let w = no_room_lem message l (18 + n + k) long h in (w.0, (w.1, long))
 
   pub written : {x y z r : List ℕ} (head : ℕ) → 18 + n + k ≤ length l → head ≡ first_octet level 1
@@ -76,7 +76,7 @@ module _ (names : List ℕ) (whole : length names ≡ name_octets) (level opcode
       → y ≡ laid 6 (after_destination own head opcode 0 offset) x
       → z ≡ laid 18 value y
       → r ≡ laid (0 + (18 + n)) (in_octets big_endian k 0) z
-      → Wrote (Octets (18 + n + k)) r
+      → Wrote (Ok (18 + n + k)) r
   written {r = r} head h eh e1 e2 e3 e4 =
       let all = request_laid peer own head opcode offset value n k (peer-long names whole) (own_long names whole) hv l h e1 e2 e3 e4 in
       let w = room message l (18 + n + k) long r h (all ∙ rw eh) in

@@ -16,7 +16,6 @@ use Rattle.base_numbers.specs.Numbers.{number, in_octets, number_lowest_first, o
 use Rattle.frame_opcodes.specs.Opcodes.{rule_of}
 use Rattle.frame_tlvs.specs.Tlvs.{end, one, first_of, walk_from, is_cut}
 use Rattle.frame_head.specs.Head.{ether_type_of, pdu_of, opcode_of, offset_of, start_of}
-use Rattle.frame_judge.specs.declared.Head.TheVariants as head
 use Rattle.paper_said.specs.Drops.{ais}
 use Rattle.paper_said.proofs.Messages.{run_ends, ends-run, behind}
 use Rattle.base_octets.proofs.Written.{octets-of}

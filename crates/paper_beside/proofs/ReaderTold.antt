@@ -3,13 +3,15 @@ use Prim.Native.Nat.{ℕ, ◌≤◌, ◌<◌}
 use mathlib.Core.Path.{◌≡◌, refl, sym, ap, ◌∙◌}
 use mathlib.Core.List.{List}
 use mathlib.Core.Bool.{true, false}
-use mathlib.Core.Option.{Option, some, none}
+use mathlib.Core.Option.{Option as Maybe, some, none}
 use mathlib.Core.Logic.{⊎_elim}
 use native.Mathlib.Omega.{arith}
 use lib.Dec.{leb}
 use lib.Seq.{drop-drop}
 use lib.ListN.{length, take, length-drop}
 use borrow.Author.Tests.{leb-true, le-leb, eq-eqb, ne_eqb}
+use Rattle.std.specs.Prelude.{Result, Ok, Err, Option}
+use Rattle.frame_seek.specs.declared.Span.{Span}
 use Rattle.base_laws.specs.Lists.{part}
 use Rattle.base_laws.proofs.Tests.{known as if-known, both_true}
 use Rattle.base_octets.specs.Octets.{Octets}
@@ -19,15 +21,12 @@ use Rattle.frame_tlvs.specs.Tlvs.{first_of, walk_from, value_at}
 use Rattle.frame_tlvs.proofs.Agrees.{walk-agrees}
 use Rattle.frame_reader_answer.specs.declared.Bad.{Bad}
 use Rattle.frame_reader_answer.specs.declared.Bad.TheVariants.{Length, Short, Opcode, Offset}
-use Rattle.frame_seek.specs.declared.Seek.{Seek}
-use Rattle.frame_seek.specs.declared.Seek.TheVariants as seek
 use Rattle.frame_head.specs.Head.{ether_type_of, length_good, pdu_of, opcode_of, offset_of, start_of}
 use Rattle.frame_judge.specs.Judge.{judge_pdu}
 use Rattle.frame_seek.specs.Seek.{wanted, whole, in_frame, seek_of}
 use Rattle.frame_reader.specs.Reader.{answer_at, part_of, answer_of, value_of}
 use Rattle.frame_judge.proofs.Judged.{pdu-short, pdu-opcode, pdu-offset, pdu-tlvs}
 use Rattle.frame_seek.proofs.Seeks.{whole_cut, whole_uncut, in_bad, in_tlvs, of_length, of-service, of-pdu}
-use Rattle.frame_judge.specs.declared.Head.TheVariants as head
 use Rattle.paper_said.proofs.Messages.{run_ends, no-run_cuts, behind}
 use Rattle.paper_beside.specs.Reader.{Long, OamFrame, InTable, Offered, TlvsOf, ReaderTells, refused, dropped, value, no_such}
 use Rattle.paper_beside.specs.Reader.{ReaderSaid, reader_1, service_d3, reader_d1, reader_d3, reader_d4, reader_d5, reader_value}
@@ -37,26 +36,26 @@ use Rattle.paper_beside.proofs.Table.{table-least, table-known, not_in_table}
 -- ── what ours tells ──
 
 -- of what a search has found
-seek_tells : List ℕ → Seek → ReaderTells
+seek_tells : List ℕ → Result (Option Span) Bad → ReaderTells
 seek_tells f s = reader_tells (answer_at s) (part_of f s)
 
 module _ (f : List ℕ) (kind : ℕ) where
   -- a reason that the search gives
-  bad : (b : Bad) → seek_of f kind ≡ seek.Bad b → our_reader f kind ≡ bad_tells b
+  bad : (b : Bad) → seek_of f kind ≡ Err b → our_reader f kind ≡ bad_tells b
   unfolding answer_of value_of seek_tells
   bad b e = ap (seek_tells f) e
 
   -- a reason that stands before the TLVs of its PDU
-  bad-pdu : (b : Bad) → length_good f ≡ true → ether_type_of f ≡ 0x8902 → judge_pdu (pdu_of f) ≡ head.Bad b → our_reader f kind ≡ bad_tells b
+  bad-pdu : (b : Bad) → length_good f ≡ true → ether_type_of f ≡ 0x8902 → judge_pdu (pdu_of f) ≡ Err b → our_reader f kind ≡ bad_tells b
   bad-pdu b g e j = bad b (of-pdu f kind g (eq-eqb (ether_type_of f) 0x8902 e) ∙ ap in_frame (in_bad (pdu_of f) kind b j))
 
 -- what is told of a value, or of none
-option_tells : Option (List ℕ) → ReaderTells
+option_tells : Maybe (List ℕ) → ReaderTells
 option_tells (some v) = value v
 option_tells none = no_such
 
 -- a value that is found in the PDU is that part of the frame
-place-told : (f : List ℕ) (w : Place) → seek_tells f (in_frame (wanted w)) ≡ option_tells (value_at (pdu_of f) w)
+place-told : (f : List ℕ) (w : Place) → seek_tells f (in_frame (Ok (wanted w))) ≡ option_tells (value_at (pdu_of f) w)
 unfolding seek_tells option_tells part
 place-told f (place.Found start len) = ap (λ (l : List ℕ). value (take len l)) (sym (drop-drop start 14 f))
 place-told f (place.End at) = refl

@@ -4,6 +4,7 @@ use mathlib.Core.Path.{◌≡◌, ap, ap₂, ◌∙◌}
 use mathlib.Core.List.{[]}
 use mathlib.Core.Bool.{cond}
 use lib.Dec.{eqb}
+use Rattle.std.specs.Prelude.{ℕ, Result, Option}
 use Rattle.base_laws.specs.Ended.{Wrote}
 use Rattle.base_octets.specs.Octets.{Octets}
 use Rattle.state_settings.specs.Settings.{settings_of}
@@ -11,7 +12,7 @@ use Rattle.stored_settings_body.specs.declared.SettingsRead.{SettingsRead}
 use Rattle.stored_settings.specs.SettingsRecord.{settings_read}
 use Rattle.stored_settings.proofs.read_settings.Reads as read_settings
 use Rattle.stored_settings.proofs.write_settings.Reads as write_settings
-use Rattle.stored_line.specs.declared.LineAnswer.{LineAnswer}
+use Rattle.stored_line.specs.declared.LossLine.{LossLine}
 use Rattle.stored_line_calls.proofs.read_line.Reads as read_line
 use Rattle.stored_line_calls.proofs.write_line.Reads as write_line
 use Rattle.frame_reader.specs.Reader.{value_of}
@@ -22,7 +23,7 @@ use Rattle.paper_beside.specs.Records.{refused, settings, RecordLeft, leaving, R
 use Rattle.paper_beside.proofs.Records.{records_follow}
 use Rattle.paper_beside.specs.Reader.{ReaderTells, ReaderSaid, reader_tells}
 use Rattle.paper_beside.proofs.Reader.{reader-follows}
-use Rattle.stored_record.specs.declared.RecordAnswer.{RecordAnswer}
+use Rattle.stored_record.specs.declared.RecordRefusal.{RecordRefusal}
 
 -- ── stored records ──
 
@@ -37,17 +38,17 @@ pub write_settings-follows : (κs : _) (a : _) (r : _) (s : _) → write_setting
     → RecordSaid (call.write-settings (settings_of a.1.0.now a.1.1.0.now a.1.1.1.0.now) a.0.now) o
     → leaving (write_tells r) s.0.now ≡ o
 write_settings-follows κs a r s p o q =
-    ap (λ (e : Wrote RecordAnswer). leaving (write_tells e.answer) e.buffer) p.0.0 ∙ records_follow.ours.follows _ o p.1 q
+    ap (λ (e : Wrote (Result ℕ RecordRefusal)). leaving (write_tells e.answer) e.buffer) p.0.0 ∙ records_follow.ours.follows _ o p.1 q
 
 pub read_line-follows : (κs : _) (a : _) (r : _) (s : _) → read_line.Post κs a r s → (o : RecordLeft)
     → RecordSaid (call.read-line a.0.now) o → leaving (line_tells r) [] ≡ o
-read_line-follows κs a r s p o q = ap (λ (t : LineAnswer). leaving (line_tells t) []) p.0 ∙ records_follow.ours.follows _ o tt q
+read_line-follows κs a r s p o q = ap (λ (t : Option LossLine). leaving (line_tells t) []) p.0 ∙ records_follow.ours.follows _ o tt q
 
 pub write_line-follows : (κs : _) (a : _) (r : _) (s : _) → write_line.Post κs a r s → (o : RecordLeft)
     → RecordSaid (call.write-line a.1.0 a.0.now) o
     → leaving (write_tells r) s.0.now ≡ o
 write_line-follows κs a r s p o q =
-    ap (λ (e : Wrote RecordAnswer). leaving (write_tells e.answer) e.buffer) p.0 ∙ records_follow.ours.follows _ o tt q
+    ap (λ (e : Wrote (Result ℕ RecordRefusal)). leaving (write_tells e.answer) e.buffer) p.0 ∙ records_follow.ours.follows _ o tt q
 
 -- ── the reader of TLVs ──
 

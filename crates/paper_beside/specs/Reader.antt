@@ -1,12 +1,10 @@
 -- The reader of TLVs, as the paper's lines: "What is in a PDU". It is given a frame alone and the TLV type that is asked for, and tests 1,
 -- D1, D3, D4 and D5. Each line holds its whole condition and its whole outcome. Definitions and the statement only.
-use Rattle.std.specs.Prelude.{ℕ, ◌≤◌, ◌<◌, ◌≡◌, List, length, drop}
+use Rattle.std.specs.Prelude.{Bool, false, true, ℕ, ◌≤◌, ◌<◌, ◌≡◌, List, length, drop, Result, Ok, Err}
 use Rattle.std.proofs.Math.Option.{some, none}
 use Rattle.base_octets.specs.Octets.{Octets}
 use Rattle.frame_reader_answer.specs.declared.Bad.{Bad}
 use Rattle.frame_reader_answer.specs.declared.Bad.TheVariants.{Length, Short, Opcode, Offset, CutOff}
-use Rattle.frame_reader_answer.specs.declared.TlvAnswer.{TlvAnswer}
-use Rattle.frame_reader_answer.specs.declared.TlvAnswer.TheVariants as answer
 use Rattle.frame_head.specs.Head.{ether_type_of, pdu_of, opcode_of, offset_of, start_of}
 use Rattle.frame_reader.specs.Reader.{answer_of, value_of}
 use Rattle.frame_tlvs.specs.Tlvs.{Tlvs, first_of}
@@ -75,10 +73,10 @@ bad_tells Opcode = dropped 3
 bad_tells Offset = dropped 4
 bad_tells CutOff = dropped 5
 
-abbrev pub reader_tells : TlvAnswer → List ℕ → ReaderTells
-reader_tells answer.Value v = value v
-reader_tells answer.NoSuch v = no_such
-reader_tells (answer.Bad b) v = bad_tells b
+abbrev pub reader_tells : Result Bool Bad → List ℕ → ReaderTells
+reader_tells (Ok true) v = value v
+reader_tells (Ok false) v = no_such
+reader_tells (Err b) v = bad_tells b
 
 abbrev pub our_reader : List ℕ → ℕ → ReaderTells
 our_reader f kind = reader_tells (answer_of f kind) (value_of f kind)

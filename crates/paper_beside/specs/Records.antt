@@ -1,16 +1,14 @@
 -- Stored records, as the paper's lines: "Stored records", and refusals 7, 4 and 3. Each line holds its whole condition and its whole
 -- outcome, the answer and the buffer. Definitions and the statement only.
-use Rattle.std.specs.Prelude.{ℕ, ◌≤◌, ◌<◌, ◌≡◌, List, [], cond, eqb, length}
+use Rattle.std.specs.Prelude.{ℕ, ◌≤◌, ◌<◌, ◌≡◌, List, [], cond, eqb, length, Result, Ok, Err, Option, Some, None}
 use Rattle.base_laws.specs.Lists.{laid}
 use Rattle.state_settings.specs.Settings.{Settings, slots, Shaped}
 use Rattle.state_settings.specs.Valid.{Valid}
-use Rattle.stored_record.specs.declared.RecordAnswer.{RecordAnswer}
-use Rattle.stored_record.specs.declared.RecordAnswer.TheVariants as stored
+use Rattle.stored_record.specs.declared.RecordRefusal.{RecordRefusal}
+use Rattle.stored_record.specs.declared.RecordRefusal.TheVariants as stored
 use Rattle.stored_record.specs.Record.{IsRecord, NoRecord}
 use Rattle.stored_settings.specs.SettingsRecord.{settings_record, settings_at, settings_read, read_settings, write_settings}
 use Rattle.stored_line.specs.declared.LossLine.{LossLine}
-use Rattle.stored_line.specs.declared.LineAnswer.{LineAnswer}
-use Rattle.stored_line.specs.declared.LineAnswer.TheVariants as read
 use Rattle.stored_line.specs.Line.{KeepsRules, line_record, line_in}
 use Rattle.stored_line.specs.LineCalls.{read_line, write_line}
 
@@ -60,14 +58,14 @@ pub data RecordSaid : RecordCall → RecordLeft → Type 0 where
 
 -- ── ours, made of the definitions that the contracts name ──
 
-abbrev pub write_tells : RecordAnswer → RecordTells
-write_tells stored.BreaksRule = refused 4
-write_tells stored.NoRoom = refused 3
-write_tells (stored.Octets n) = written n
+abbrev pub write_tells : Result ℕ RecordRefusal → RecordTells
+write_tells (Err stored.BreaksRule) = refused 4
+write_tells (Err stored.NoRoom) = refused 3
+write_tells (Ok n) = written n
 
-abbrev pub line_tells : LineAnswer → RecordTells
-line_tells read.Refused = refused 7
-line_tells (read.Line l) = line l
+abbrev pub line_tells : Option LossLine → RecordTells
+line_tells None = refused 7
+line_tells (Some l) = line l
 
 abbrev pub our_records : RecordCall → RecordLeft
 our_records (read-settings octets) = leaving (cond (eqb (read_settings octets).refusal 0) (settings (settings_read (read_settings octets))) (refused (read_settings octets).refusal)) []

@@ -1,19 +1,18 @@
 -- The row that a CCM of version 1 with offset 74 is read as a CCM. Assumes nothing.
 use Prim.Native.Nat.{ℕ, ◌+◌, ◌%◌}
 use mathlib.Core.Path.{◌≡◌, refl, sym, ap, ◌∙◌, subst}
-use mathlib.Core.Bool.{true, false, true≢false}
+use mathlib.Core.Bool.{Bool, true, false, true≢false}
 use mathlib.Core.List.{List, ◌∷◌, ◌++◌}
 use native.Mathlib.Omega.{arith}
 use lib.ListN.{length, drop, length-append}
 use lib.Seq.{drop_at}
 use borrow.Author.Tests.{eq-eqb, ne_eqb}
+use Rattle.std.specs.Prelude.{Result, Ok, Err}
+use Rattle.frame_message_answer.specs.declared.NoMessage.{NoMessage}
+use Rattle.frame_reader_answer.specs.declared.Bad.{Bad}
 use Rattle.base_laws.specs.Tests.{choose}
 use Rattle.base_bits.specs.Fields.{first_octet}
 use Rattle.frame_opcodes.specs.Opcodes.{rule_of}
-use Rattle.frame_reader_answer.specs.declared.TlvAnswer.{TlvAnswer}
-use Rattle.frame_reader_answer.specs.declared.TlvAnswer.TheVariants as tlv
-use Rattle.frame_message_answer.specs.declared.MessageAnswer.{MessageAnswer}
-use Rattle.frame_message_answer.specs.declared.MessageAnswer.TheVariants.{Message}
 use Rattle.frame_tlvs.specs.Tlvs.{Tlvs, is_cut}
 use Rattle.frame_tlvs.proofs.Agrees.{walk-agrees}
 use Rattle.frame_head.specs.Head.{pdu_of, opcode_of, flags_of, offset_of, start_of}
@@ -27,12 +26,12 @@ use Rattle.frame_message.proofs.Shape.{framed, pdu-is, headed}
 use Rattle.paper_edges.specs.Table.{IsRead}
 
 -- an answer without a reason leaves the message, and one with a good code is its opcode's
-unless_good : (a : TlvAnswer) (m : MessageAnswer) → is_bad a ≡ false → unless_bad a m ≡ m
-unless_good (tlv.Bad b) m e = absurd (true≢false e)
-unless_good tlv.NoSuch m e = refl
-unless_good tlv.Value m e = refl
+unless_good : (a : Result Bool Bad) (m : Result ℕ NoMessage) → is_bad a ≡ false → unless_bad a m ≡ m
+unless_good (Err b) m e = absurd (true≢false e)
+unless_good (Ok false) m e = refl
+unless_good (Ok true) m e = refl
 
-judged : (op flags : ℕ) → code_good (rule_of op) (period_code flags) ≡ true → judged_of op flags ≡ Message op
+judged : (op flags : ℕ) → code_good (rule_of op) (period_code flags) ≡ true → judged_of op flags ≡ Ok op
 unfolding judged_of
 judged op flags e = rw e
 
@@ -54,4 +53,4 @@ is_read addresses fixed extra tlvs level flags ts a l m n run code =
     rw (op, fl, ne_eqb (flags % 8) 0 code) in
     let one : good_opcode f ≡ 1 = message-numbers.opcode f good cg ∙ op in
     let kind = unless_good (answer_of f 0) _ ((good_frames.read f 0).1 good) ∙ judged _ _ cg in
-    (kind ∙ ap Message op, eq-eqb (good_opcode f) 1 one)
+    (kind ∙ ap Ok op, eq-eqb (good_opcode f) 1 one)

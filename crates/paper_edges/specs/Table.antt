@@ -1,6 +1,6 @@
 -- The edges that the paper marks P, in its order: each row is a sentence, and `Edges` says that every row holds. Rows of crates that are
 -- still to come are added with them. Definitions and the statement only.
-use Rattle.std.specs.Prelude.{ℕ, ◌/◌, ◌%◌, ◌^◌, ◌≤◌, ◌<◌, ◌≡◌, true, List, [], ◌∷◌, ◌++◌, map, ℤ, pos, negsuc, length, get_or, replicate}
+use Rattle.std.specs.Prelude.{ℕ, ◌/◌, ◌%◌, ◌^◌, ◌≤◌, ◌<◌, ◌≡◌, true, List, [], ◌∷◌, ◌++◌, map, ℤ, pos, negsuc, length, get_or, replicate, Ok}
 use Rattle.base_laws.specs.Lists.{part}
 use Rattle.base_clock.specs.Run.{after}
 use Rattle.state_settings.specs.Settings.{Settings, slots}
@@ -25,7 +25,6 @@ use Rattle.frame_reader.specs.Reader.{answer_of, value_of}
 use Rattle.frame_reader.specs.Numbers as Reader
 use Rattle.frame_reader_answer.specs.Told as Reasons
 use Rattle.frame_message.specs.Message.{message_of}
-use Rattle.frame_message_answer.specs.declared.MessageAnswer.TheVariants.{Message}
 use Rattle.frame_ccm.specs.Ccm.{is_ccm, ccm_of, meg_of}
 use Rattle.frame_tlvs.specs.Tlvs.{Tlvs}
 
@@ -94,7 +93,7 @@ FourMore = (addresses fixed extra tlvs : List ℕ) (level first flags : ℕ) →
 abbrev pub IsRead : Type 0
 IsRead = (addresses fixed extra tlvs : List ℕ) (level flags : ℕ) (ts : List (ℕ × List ℕ)) → length addresses ≡ 12 → length fixed ≡ 70
     → length extra ≡ 4 → length tlvs ≤ 1422 → Tlvs tlvs ts → (flags % 8 ≡ 0 → ⊥)
-    → (message_of (ccm_frame addresses (first_octet level 1) flags 74 (fixed ++ extra ++ tlvs)) ≡ Message 1)
+    → (message_of (ccm_frame addresses (first_octet level 1) flags 74 (fixed ++ extra ++ tlvs)) ≡ Ok 1)
     × (is_ccm (ccm_frame addresses (first_octet level 1) flags 74 (fixed ++ extra ++ tlvs)) ≡ true)
 
 -- one with offset 69 is D4, whatever else it holds

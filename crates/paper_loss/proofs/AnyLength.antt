@@ -8,11 +8,13 @@ use lib.Dec.{leb}
 use lib.ListN.{length, take, drop, replicate, take-append-drop, length-drop}
 use lib.Seq.{take_all, length-take-le}
 use borrow.Author.Tests.{leb-true, leb-false}
+use Rattle.std.specs.Prelude.{Result, Err, Option}
 use Rattle.base_clock.specs.Run.{after}
 use Rattle.loss_session.specs.declared.Readings.{Readings}
 use Rattle.loss_session.specs.declared.LossSession.{LossSession}
-use Rattle.loss_reading.specs.declared.LossAnswer.{LossAnswer}
-use Rattle.loss_reading.specs.declared.LossAnswer.TheVariants.{Full}
+use Rattle.loss_reading.specs.declared.LossRefusal.{LossRefusal}
+use Rattle.loss_reading.specs.declared.Losses.{Losses}
+use Rattle.loss_reading.specs.declared.LossRefusal.TheVariants.{Full}
 use Rattle.loss_reading.specs.declared.Updated.{Updated}
 use Rattle.loss_session.specs.Session.{cleared_session}
 use Rattle.loss_account.specs.Demand3.{Step, answers, leaves, Demand3}
@@ -24,20 +26,20 @@ module _ (f : Step) where
   unfolding answers
   answers-take zero rs s = refl
   answers-take (suc k) [] s = refl
-  answers-take (suc k) (r ∷ rs) s = ap (λ (l : List LossAnswer). (f s r).answer ∷ l) (answers-take k rs (f s r).session)
+  answers-take (suc k) (r ∷ rs) s = ap (λ (l : List (Result (Option Losses) LossRefusal)). (f s r).answer ∷ l) (answers-take k rs (f s r).session)
 
   answers-append : (xs ys : List Readings) (s : LossSession) → answers f s (xs ++ ys) ≡ answers f s xs ++ answers f (leaves f s xs) ys
   unfolding answers after
   answers-append [] ys s = refl
-  answers-append (x ∷ xs) ys s = ap (λ (l : List LossAnswer). (f s x).answer ∷ l) (answers-append xs ys (f s x).session)
+  answers-append (x ∷ xs) ys s = ap (λ (l : List (Result (Option Losses) LossRefusal)). (f s x).answer ∷ l) (answers-append xs ys (f s x).session)
 
   leaves-append : (xs ys : List Readings) (s : LossSession) → leaves f s (xs ++ ys) ≡ leaves f (leaves f s xs) ys
   unfolding after
   leaves-append [] ys s = refl
   leaves-append (x ∷ xs) ys s = leaves-append xs ys (f s x).session
 
-  module _ (s : LossSession) (full : (r : Readings) → f s r ≡ record { answer = Full; session = s }) where
-    full-answers : (ys : List Readings) → answers f s ys ≡ replicate (length ys) Full
+  module _ (s : LossSession) (full : (r : Readings) → f s r ≡ record { answer = Err Full; session = s }) where
+    full-answers : (ys : List Readings) → answers f s ys ≡ replicate (length ys) (Err Full)
     unfolding answers
     full-answers [] = refl
     full-answers (y ∷ ys) =
@@ -49,7 +51,7 @@ module _ (f : Step) where
     full-left (y ∷ ys) = ap (λ (u : Updated). leaves f u.session ys) (full y) ∙ full-left ys
 
 pub record Cut (f : Step) (rs : List Readings) : Type 0 where
-  pub said : answers f cleared_session rs ≡ answers f cleared_session (take most rs) ++ replicate (length rs - most) Full
+  pub said : answers f cleared_session rs ≡ answers f cleared_session (take most rs) ++ replicate (length rs - most) (Err Full)
   pub left : leaves f cleared_session rs ≡ leaves f cleared_session (take most rs)
   pub few : length (take most rs) ≤ most
 
@@ -71,12 +73,12 @@ cut f m rs = go (leb (length rs) most) refl
         let h : most < length rs = leb-false (length rs) most e in
         let l : length (take most rs) ≡ most = length-take-le most rs (omega arith) in
         let s : LossSession = leaves f cleared_session (take most rs) in
-        let full : (r : Readings) → f s r ≡ record { answer = Full; session = s } = λ r. m.later (take most rs) r (omega arith) in
+        let full : (r : Readings) → f s r ≡ record { answer = Err Full; session = s } = λ r. m.later (take most rs) r (omega arith) in
         record {
           said = ap (answers f cleared_session) (sym (take-append-drop most rs))
               ∙ answers-append f (take most rs) (drop most rs) cleared_session
-              ∙ ap (λ (xs : List LossAnswer). answers f cleared_session (take most rs) ++ xs)
-              (full-answers f s full (drop most rs) ∙ ap (λ (k : ℕ). replicate k Full) (length-drop most rs));
+              ∙ ap (λ (xs : List (Result (Option Losses) LossRefusal)). answers f cleared_session (take most rs) ++ xs)
+              (full-answers f s full (drop most rs) ∙ ap (λ (k : ℕ). replicate k (Err Full)) (length-drop most rs));
           left = ap (leaves f cleared_session) (sym (take-append-drop most rs))
               ∙ leaves-append f (take most rs) (drop most rs) cleared_session ∙ full-left f s full (drop most rs);
           few = omega arith;

@@ -7,7 +7,6 @@ use lib.Dec.{leb, eqb}
 use lib.ListN.{length}
 use native.Mathlib.Omega.{arith}
 use borrow.Author.Tests.{leb-true, leb-false, eqb-true, eqb-false}
-use Rattle.loss_reading.specs.declared.LossAnswer.TheVariants as answer
 use Rattle.state_view.specs.State.{State}
 use Rattle.state_view.specs.WellFormed.{well_formed}
 use Rattle.state_view.proofs.Rules.{well_formed_is}

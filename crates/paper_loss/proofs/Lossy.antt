@@ -2,8 +2,11 @@
 use mathlib.Core.Path.{◌≡◌, refl, ap, ◌∙◌}
 use mathlib.Core.Bool.{Bool, true, false, false≢true}
 use lib.Dec.{eqb}
-use Rattle.loss_reading.specs.declared.LossAnswer.{LossAnswer}
-use Rattle.loss_reading.specs.declared.LossAnswer.TheVariants as answer
+use Rattle.std.specs.Prelude.{Result, Ok, Err, Option, Some, None}
+use Rattle.loss_reading.specs.Losses.{losses_of}
+use Rattle.loss_reading.specs.declared.LossRefusal.{LossRefusal}
+use Rattle.loss_reading.specs.declared.Losses.{Losses}
+use Rattle.loss_reading.specs.declared.LossRefusal.TheVariants as answer
 use Rattle.loss_reading.specs.Reading.{after_reading}
 use Rattle.loss_reading.proofs.Refusals.{refuses_2}
 use Rattle.state_view.specs.State.{State}
@@ -33,11 +36,11 @@ lossy (call.delays t f n) = false
 lossy call.done = false
 lossy (call.standing r) = false
 
-told-lossy : (x : LossAnswer) → (x ≡ answer.NotWellFormed → ⊥) → lossy (told_of x) ≡ true
-told-lossy answer.NotWellFormed n = absurd (n refl)
-told-lossy answer.Full n = refl
-told-lossy answer.First n = refl
-told-lossy (answer.Measured near far) n = refl
+told-lossy : (x : Result (Option Losses) LossRefusal) → (x ≡ Err answer.NotWellFormed → ⊥) → lossy (told_of x) ≡ true
+told-lossy (Err answer.NotWellFormed) n = absurd (n refl)
+told-lossy (Err answer.Full) n = refl
+told-lossy (Ok None) n = refl
+told-lossy (Ok (Some l)) n = refl
 
 pub reply-lossy : (s : State) (a : Arrival) (o : Outcome) → FromWire a → LossReply s a → Said s (call.frame a) o → lossy o.answer ≡ true
 reply-lossy s a o u l p =

@@ -3,10 +3,12 @@ use Prim.Native.Nat.{ℕ, ◌-◌, ◌≤◌}
 use mathlib.Core.Path.{◌≡◌, refl, sym, ap, ap₂, ◌∙◌}
 use mathlib.Core.List.{List, ◌++◌, map, map-append}
 use lib.ListN.{length, take, replicate}
+use Rattle.std.specs.Prelude.{Result, Err, Option}
 use Rattle.loss_session.specs.declared.Readings.{Readings}
 use Rattle.loss_session.specs.declared.LossSession.{LossSession}
-use Rattle.loss_reading.specs.declared.LossAnswer.{LossAnswer}
-use Rattle.loss_reading.specs.declared.LossAnswer.TheVariants as answer
+use Rattle.loss_reading.specs.declared.LossRefusal.{LossRefusal}
+use Rattle.loss_reading.specs.declared.Losses.{Losses}
+use Rattle.loss_reading.specs.declared.LossRefusal.TheVariants as answer
 use Rattle.loss_reading.specs.declared.Updated.{Updated}
 use Rattle.loss_session.specs.Session.{LossEnd, near, total_of, cleared_session}
 use Rattle.loss_reading.specs.Reading.{after_reading}
@@ -85,9 +87,9 @@ module _ (B : Box) (F : Follows B) where
           results =
               ap (map (seen d)) answers_are
               ∙ all_seen d (account.answers after_reading cleared_session rs)
-              ∙ ap (λ (l : List LossAnswer). map in_box (map (account.seen d) l)) cuts.said
-              ∙ ap (map in_box) (map-append (account.seen d) xs (replicate k answer.Full))
-              ∙ map-append in_box (map (account.seen d) xs) (map (account.seen d) (replicate k answer.Full))
+              ∙ ap (λ (l : List (Result (Option Losses) LossRefusal)). map in_box (map (account.seen d) l)) cuts.said
+              ∙ ap (map in_box) (map-append (account.seen d) xs (replicate k (Err answer.Full)))
+              ∙ map-append in_box (map (account.seen d) xs) (map (account.seen d) (replicate k (Err answer.Full)))
               ∙ ap₂ ◌++◌ (ap (map in_box) a.results ∙ all-accounted ts) (all-full d k);
           totals = ap (total_of d) first-session ∙ a.totals;
         }
@@ -101,7 +103,7 @@ module _ (B : Box) (F : Follows B) where
         let y = run B s cs in
         let w = lifted.end in
         let e = F.follows y (frame a) _ u (reply-said y a (reply-to s y a w.well (sym w.settings) l)) in
-        let full : after_reading y.session (made.reading y a) ≡ record { answer = answer.Full; session = y.session } =
+        let full : after_reading y.session (made.reading y a) ≡ record { answer = Err answer.Full; session = y.session } =
         rw session-is ((Account.meets).later rs (made.reading y a) many) in
         e ∙ ap (λ (x : Updated). leaves (told_of x.answer) (with_session x.session y) a.buffer) full
 

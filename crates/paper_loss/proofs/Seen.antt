@@ -4,8 +4,11 @@ use mathlib.Core.Path.{◌≡◌, refl, ap, ap₂}
 use mathlib.Core.List.{List, [], ◌∷◌, map}
 use lib.IntN.{ℤ, pos}
 use lib.ListN.{take, replicate}
-use Rattle.loss_reading.specs.declared.LossAnswer.{LossAnswer}
-use Rattle.loss_reading.specs.declared.LossAnswer.TheVariants as answer
+use Rattle.std.specs.Prelude.{Result, Ok, Err, Option, Some, None}
+use Rattle.loss_reading.specs.Losses.{losses_of}
+use Rattle.loss_reading.specs.declared.LossRefusal.{LossRefusal}
+use Rattle.loss_reading.specs.declared.Losses.{Losses}
+use Rattle.loss_reading.specs.declared.LossRefusal.TheVariants as answer
 use Rattle.loss_session.specs.Session.{LossEnd, near, far}
 use Rattle.loss_account.specs.Account.{Truth, losses}
 use Rattle.loss_account.specs.Demand3 as account
@@ -22,17 +25,17 @@ in_box (account.refused n) = refused n
 in_box account.kept = loss (pos 0)
 in_box (account.loss z) = loss z
 
-told-seen : (d : LossEnd) (x : LossAnswer) → seen d (told_of x) ≡ in_box (account.seen d x)
-told-seen near answer.NotWellFormed = refl
-told-seen near answer.Full = refl
-told-seen near answer.First = refl
-told-seen near (answer.Measured n f) = refl
-told-seen far answer.NotWellFormed = refl
-told-seen far answer.Full = refl
-told-seen far answer.First = refl
-told-seen far (answer.Measured n f) = refl
+told-seen : (d : LossEnd) (x : Result (Option Losses) LossRefusal) → seen d (told_of x) ≡ in_box (account.seen d x)
+told-seen near (Err answer.NotWellFormed) = refl
+told-seen near (Err answer.Full) = refl
+told-seen near (Ok None) = refl
+told-seen near (Ok (Some l)) = refl
+told-seen far (Err answer.NotWellFormed) = refl
+told-seen far (Err answer.Full) = refl
+told-seen far (Ok None) = refl
+told-seen far (Ok (Some l)) = refl
 
-pub all_seen : (d : LossEnd) (xs : List LossAnswer) → map (seen d) (map told_of xs) ≡ map in_box (map (account.seen d) xs)
+pub all_seen : (d : LossEnd) (xs : List (Result (Option Losses) LossRefusal)) → map (seen d) (map told_of xs) ≡ map in_box (map (account.seen d) xs)
 all_seen d [] = refl
 all_seen d (x ∷ xs) = ap₂ ◌∷◌ (told-seen d x) (all_seen d xs)
 
@@ -45,7 +48,7 @@ unfolding account.accounted
 all-accounted [] = refl
 all-accounted (t ∷ ts) = ap (λ (l : List Seen). loss (pos 0) ∷ l) (all-losses (losses t ts))
 
-pub all-full : (d : LossEnd) (k : ℕ) → map in_box (map (account.seen d) (replicate k answer.Full)) ≡ replicate k (refused 5)
+pub all-full : (d : LossEnd) (k : ℕ) → map in_box (map (account.seen d) (replicate k (Err answer.Full))) ≡ replicate k (refused 5)
 all-full d zero = refl
 all-full near (suc k) = ap (λ (l : List Seen). refused 5 ∷ l) (all-full near k)
 all-full far (suc k) = ap (λ (l : List Seen). refused 5 ∷ l) (all-full far k)

@@ -7,11 +7,14 @@ use native.Mathlib.Omega.{arith}
 use lib.Dec.{eqb}
 use lib.IntN.{pos}
 use borrow.Author.Tests.{eqb-true, eqb-false}
+use Rattle.std.specs.Prelude.{Result, Ok, Err, Option, Some, None}
+use Rattle.loss_reading.specs.Losses.{losses_of}
 use Rattle.base_laws.proofs.Tests.{known}
 use Rattle.loss_session.specs.declared.Readings.{Readings}
 use Rattle.loss_session.specs.declared.LossSession.{LossSession}
-use Rattle.loss_reading.specs.declared.LossAnswer.{LossAnswer}
-use Rattle.loss_reading.specs.declared.LossAnswer.TheVariants as answer
+use Rattle.loss_reading.specs.declared.LossRefusal.{LossRefusal}
+use Rattle.loss_reading.specs.declared.Losses.{Losses}
+use Rattle.loss_reading.specs.declared.LossRefusal.TheVariants as answer
 use Rattle.loss_reading.specs.declared.Updated.{Updated}
 use Rattle.loss_session.specs.Session.{readings, most_intervals}
 use Rattle.loss_reading.specs.Reading.{after_reading}
@@ -35,11 +38,11 @@ use Rattle.paper_loss.specs.Runs as event
 use Rattle.paper_loss.proofs.Quiet.{quiet, quiet-tick, quiet-lmm, quiet-dmm, quiet-conditions, calm_clear}
 
 -- a loss session's answer in the paper's words
-abbrev pub told_of : LossAnswer → Answer
-told_of answer.NotWellFormed = refused 2
-told_of answer.Full = refused 5
-told_of answer.First = loss (pos 0) (pos 0)
-told_of (answer.Measured near far) = loss near far
+abbrev pub told_of : Result (Option Losses) LossRefusal → Answer
+told_of (Err answer.NotWellFormed) = refused 2
+told_of (Err answer.Full) = refused 5
+told_of (Ok None) = loss (pos 0) (pos 0)
+told_of (Ok (Some l)) = loss l.near l.far
 
 -- ── one call, whatever it is ──
 

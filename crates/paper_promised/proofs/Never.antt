@@ -5,6 +5,7 @@ use mathlib.Core.Bool.{false≢true}
 use mathlib.Core.List.{List}
 use native.Mathlib.Omega.{arith}
 use lib.ListN.{length}
+use Rattle.std.specs.Prelude.{Err}
 use Rattle.base_laws.specs.Tests.{choose}
 use Rattle.base_laws.specs.Lists.{part}
 use Rattle.base_laws.proofs.Parts.{length_part}
@@ -13,7 +14,7 @@ use Rattle.base_numbers.specs.Numbers.{number, big_endian}
 use Rattle.base_octets.proofs.Octets.{part-octets}
 use Rattle.base_numbers.proofs.Laws.{numbers}
 use Rattle.base_stamp.specs.Stamps.{good, Wire}
-use Rattle.receive_delay.specs.declared.DelayAnswer.TheVariants.{TooLarge}
+use Rattle.receive_delay.specs.declared.NoDelay.TheVariants.{TooLarge}
 use Rattle.receive_delay.proofs.Laws.{delay_laws}
 use Rattle.frame_opcodes.specs.Opcodes.{rule_of}
 use Rattle.frame_message.proofs.GoodTests.{fixed}
@@ -48,7 +49,7 @@ stamps_there s a r =
     let e : (rule_of (opcode a)).least ≡ 32 = ap (λ (x : ℕ). (rule_of x).least) r.dmr in
     omega (arith, f, e)
 
-too_large : (s : State) (a : Arrival) → Octets a.octets → Wire a.receive → taken.DelayReply s a → Delays.measured a ≡ TooLarge → ⊥
+too_large : (s : State) (a : Arrival) → Octets a.octets → Wire a.receive → taken.DelayReply s a → Delays.measured a ≡ Err TooLarge → ⊥
 too_large s a u w r e =
     let o = behind a.octets 14 u in
     let h = stamps_there s a r in

@@ -7,12 +7,15 @@ use lib.Dec.{ltb}
 use lib.IntN.{◌-ℤ◌}
 use lib.Signed.{mag}
 use borrow.Author.Tests.{lt-ltb, ltb-true}
+use Rattle.std.specs.Prelude.{Result, Ok, Err}
 use Rattle.base_laws.specs.Tests.{choose}
 use Rattle.base_laws.specs.Lists.{every}
 use Rattle.base_laws.proofs.Tests.{known as if-known, split, join}
 use Rattle.base_stamp.specs.declared.Stamp.{Stamp}
-use Rattle.receive_delay.specs.declared.DelayAnswer.{DelayAnswer}
-use Rattle.receive_delay.specs.declared.DelayAnswer.TheVariants.{BadStamp, TooLarge, TwoWay, AllWays}
+use Rattle.receive_delay.specs.declared.NoDelay.{NoDelay}
+use Rattle.receive_delay.specs.declared.DelayValues.{DelayValues}
+use Rattle.receive_delay.specs.declared.NoDelay.TheVariants.{BadStamp, TooLarge}
+use Rattle.receive_delay.specs.declared.DelayValues.TheVariants.{TwoWay, AllWays}
 use Rattle.base_stamp.specs.Stamps.{good, given}
 use Rattle.receive_delay.specs.Used.{paired, usable, between}
 use Rattle.receive_delay.specs.Delays.{formed, held, delays_of}
@@ -94,19 +97,19 @@ module _ (a : Arrival) where
 
   -- ── the answers ──
 
-  abbrev pub measured : DelayAnswer
+  abbrev pub measured : Result DelayValues NoDelay
   measured = delays_of (txf a) (rxf a) (txb a) a.receive
 
-  pub delay_d7 : BadDelay a → measured ≡ BadStamp
+  pub delay_d7 : BadDelay a → measured ≡ Err BadStamp
   unfolding delays_of choose
   delay_d7 b = rw (bad-not-useful b)
 
   module _ (n : BadDelay a → ⊥) where
-    pub delay-two : (Paired a → ⊥) → Held (between (txf a) a.receive) → measured ≡ TwoWay (between (txf a) a.receive)
+    pub delay-two : (Paired a → ⊥) → Held (between (txf a) a.receive) → measured ≡ Ok (TwoWay (between (txf a) a.receive))
     unfolding delays_of choose every
     delay-two p h = rw (not-bad-useful n, paired_no a p, lt-ltb (mag (between (txf a) a.receive)) (2 ^ 63) h)
 
-    pub delay-two_d8 : (Paired a → ⊥) → (Held (between (txf a) a.receive) → ⊥) → measured ≡ TooLarge
+    pub delay-two_d8 : (Paired a → ⊥) → (Held (between (txf a) a.receive) → ⊥) → measured ≡ Err TooLarge
     unfolding delays_of choose every
     delay-two_d8 p h =
         rw (not-bad-useful n, paired_no a p, untrue (ltb (mag (between (txf a) a.receive)) (2 ^ 63)) (λ e. h (ltb-true _ _ e)))
@@ -114,8 +117,8 @@ module _ (a : Arrival) where
     module _ (p : Paired a) where
       pub delay-all : Held (between (txf a) a.receive -ℤ between (rxf a) (txb a)) → Held (between (txf a) (rxf a))
           → Held (between (txb a) a.receive)
-          → measured ≡ AllWays (between (txf a) a.receive -ℤ between (rxf a) (txb a)) (between (txf a) (rxf a))
-          (between (txb a) a.receive)
+          → measured ≡ Ok (AllWays (between (txf a) a.receive -ℤ between (rxf a) (txb a)) (between (txf a) (rxf a))
+          (between (txb a) a.receive))
       unfolding delays_of choose every
       delay-all x y z = rw (not-bad-useful n, paired_yes a p, lt-ltb _ _ x, lt-ltb _ _ y, lt-ltb _ _ z)
 
@@ -138,7 +141,7 @@ module _ (a : Arrival) where
       held_all x y z = rw (paired_yes a p, lt-ltb _ _ x, lt-ltb _ _ y, lt-ltb _ _ z)
 
       pub delay-all_d8 : (Held (between (txf a) a.receive -ℤ between (rxf a) (txb a)) → Held (between (txf a) (rxf a))
-          → Held (between (txb a) a.receive) → ⊥) → measured ≡ TooLarge
+          → Held (between (txb a) a.receive) → ⊥) → measured ≡ Err TooLarge
       unfolding delays_of choose
       delay-all_d8 h =
           rw (

@@ -6,6 +6,8 @@ use mathlib.Core.Logic.{⊎_elim}
 use lib.Dec.{leb}
 use lib.ListN.{length, drop}
 use borrow.Author.Tests.{le-leb}
+use Rattle.std.specs.Prelude.{Ok, Err}
+use Rattle.frame_message_answer.specs.declared.NoMessage.TheVariants.{PeriodCode}
 use Rattle.base_laws.proofs.Tests.{join, known as if-known}
 use Rattle.base_octets.specs.Octets.{Octets}
 use Rattle.base_stamp.specs.Stamps.{good}
@@ -13,7 +15,6 @@ use Rattle.frame_opcodes.specs.Opcodes.{rule_of}
 use Rattle.frame_reader_answer.specs.declared.Bad.TheVariants.{Offset, CutOff}
 use Rattle.frame_head.specs.Head.{pdu_of, opcode_of, offset_of, flags_of, start_of}
 use Rattle.frame_tlvs.specs.Tlvs.{walk_from, is_cut}
-use Rattle.frame_message_answer.specs.declared.MessageAnswer.TheVariants.{Message, PeriodCode}
 use Rattle.frame_message.specs.Message.{period_code, code_good, judged_of, message_of}
 use Rattle.state_view.specs.State.{State}
 use Rattle.state_view.proofs.Rules.{well_formed_is}
@@ -121,12 +122,12 @@ module _ (s : State) (a : Arrival) where
       sound-message : message_of a.octets ≡ judged_of (opcode a) (flags_of (pdu a))
       sound-message = whole-message q.handled q.offset (uncut (pdu a) (start_of (pdu a)) q.tlvs)
 
-      pub seventh : judged_of (opcode a) (flags_of (pdu a)) ≡ PeriodCode → own_of s.settings a.octets a.receive ≡ Drops drop.Value
+      pub seventh : judged_of (opcode a) (flags_of (pdu a)) ≡ Err PeriodCode → own_of s.settings a.octets a.receive ≡ Drops drop.Value
       seventh e =
           found_code s.settings a.octets a.receive (row-handled q.handled) (sound-message ∙ e)
           ∙ rw (ours-yes s a q.destination)
 
-      pub handles : (k : ℕ) → judged_of (opcode a) (flags_of (pdu a)) ≡ Message k
+      pub handles : (k : ℕ) → judged_of (opcode a) (flags_of (pdu a)) ≡ Ok k
           → own_of s.settings a.octets a.receive ≡ handle_of s.settings (pdu a) a.receive (rule_of k).handler
       handles k e =
           found_message s.settings a.octets a.receive k (row-handled q.handled) (sound-message ∙ e)

@@ -2,12 +2,13 @@
 use Prim.Native.Nat.{ℕ, ◌+◌, ◌≤◌, ◌<◌, ◌%◌, ◌^◌}
 use mathlib.Core.Path.{◌≡◌, ap, ◌∙◌}
 use lib.ListN.{length}
+use Rattle.std.specs.Prelude.{Err}
+use Rattle.frame_message_answer.specs.declared.NoMessage.TheVariants.{PeriodCode}
 use Rattle.base_octets.specs.Octets.{Octets}
 use Rattle.state_view.specs.State.{State}
 use Rattle.state_view.specs.Changed.{put}
 use Rattle.state_view.specs.Changed as word
 use Rattle.frame_head.specs.Head.{ether_type_of, offset_of, flags_of}
-use Rattle.frame_message_answer.specs.declared.MessageAnswer.TheVariants.{PeriodCode}
 use Rattle.frame_message.specs.Message.{judged_of}
 use Rattle.receive_answer.specs.Told.{drop_of}
 use Rattle.receive_change.specs.Change.{applied}
@@ -98,7 +99,7 @@ module _ (s : State) (a : Arrival) where
   unfolding carried_out drop_of
   drop_6 least w h k n d = left s a w _ (sixth s a w h k n d)
 
-  pub drop_7 : (w : OwnLevel s a) (q : Sound s a) → judged_of (opcode a) (flags_of (pdu a)) ≡ PeriodCode
+  pub drop_7 : (w : OwnLevel s a) (q : Sound s a) → judged_of (opcode a) (flags_of (pdu a)) ≡ Err PeriodCode
       → ours s (call.frame a) ≡ leaves (dropped 7) s a.buffer
   unfolding carried_out drop_of
   drop_7 w q e = left s a w _ (seventh s a w q e)

@@ -5,11 +5,13 @@ use mathlib.Core.Bool.{true}
 use native.Mathlib.Omega.{arith}
 use lib.IntN.{pos}
 use borrow.Author.Tests.{eq-eqb, ne_eqb}
+use Rattle.std.specs.Prelude.{Result}
 use Rattle.base_laws.specs.Tests.{choose}
 use Rattle.loss_session.specs.Session as Session
 use Rattle.loss_reading.specs.Reading.{after_reading, loss_on}
 use Rattle.loss_reading.proofs.Refusals as Loss
-use Rattle.receive_delay.specs.declared.DelayAnswer.{DelayAnswer}
+use Rattle.receive_delay.specs.declared.NoDelay.{NoDelay}
+use Rattle.receive_delay.specs.declared.DelayValues.{DelayValues}
 use Rattle.loss_session.specs.Session.{most_intervals}
 use Rattle.state_view.specs.State.{State}
 use Rattle.state_view.specs.Changed.{with_session}
@@ -68,7 +70,7 @@ module _ (s : State) (a : Arrival) where
 
   -- ── rule 8 ──
 
-  pub delay-left : (l : taken.DelayReply s a) (x : DelayAnswer) → Delays.measured a ≡ x
+  pub delay-left : (l : taken.DelayReply s a) (x : Result DelayValues NoDelay) → Delays.measured a ≡ x
       → ours s (call.frame a) ≡ leaves (frame_answer (delay_answer x)) s a.buffer
   unfolding handle_of rule_of choose carried_out
   delay-left l x e = left s a l.own _ (handles s a l.own l.sound 46 (Codes.dmr (flags_of (pdu a)) l.dmr) ∙ ap Delays e)

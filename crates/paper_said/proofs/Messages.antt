@@ -8,6 +8,8 @@ use native.Mathlib.Omega.{arith}
 use lib.Seq.{get_or-drop}
 use lib.ListN.{length, drop, length-drop}
 use borrow.Author.Tests.{le-leb, eq-eqb}
+use Rattle.std.specs.Prelude.{Err}
+use Rattle.frame_message_answer.specs.declared.NoMessage.TheVariants.{Bad}
 use Rattle.base_laws.proofs.Tests.{known as if-known, join}
 use Rattle.base_octets.specs.Octets.{Octets}
 use Rattle.frame_opcodes.specs.Opcodes.{rule_of}
@@ -20,7 +22,6 @@ use Rattle.frame_reader.specs.Numbers.{is_found}
 use Rattle.frame_judge.proofs.Judged.{pdu-offset, pdu-tlvs}
 use Rattle.frame_tlvs.proofs.Agrees.{walk-agrees}
 use Rattle.frame_reader.proofs.Numbers.{not_found}
-use Rattle.frame_message_answer.specs.declared.MessageAnswer.TheVariants.{Bad}
 use Rattle.frame_message.specs.Good.{Headed}
 use Rattle.frame_message.specs.Message.{judged_of, message_in, message_of}
 use Rattle.frame_message.proofs.InPdu.{bad-head, cut_off as pdu-cut, let_through, frame-pdu}
@@ -70,14 +71,14 @@ module _ (f : List ℕ) (long : 14 ≤ length f) (most : length f ≤ 1514) (oam
   by-pdu : message_of f ≡ message_in (pdu_of f)
   by-pdu = frame-pdu f (join _ _ (le-leb 14 (length f) long) (le-leb (length f) 1514 most)) (eq-eqb (ether_type_of f) 0x8902 oam)
 
-  pub offset-bad : offset_of (pdu_of f) < (rule_of (opcode_of (pdu_of f))).least → message_of f ≡ Bad Offset
+  pub offset-bad : offset_of (pdu_of f) < (rule_of (opcode_of (pdu_of f))).least → message_of f ≡ Err (Bad Offset)
   offset-bad h = by-pdu ∙ bad-head (pdu_of f) Offset (pdu-offset (pdu_of f) four k h)
 
   module _ (h : (rule_of (opcode_of (pdu_of f))).least ≤ offset_of (pdu_of f)) where
     pub headed : Headed f
     headed = record { shortest = long; longest = most; oam = oam; head = four; opcode = k; offset = h }
 
-    pub cut_off : is_cut (walk_from 0 (start_of (pdu_of f)) (pdu_of f)) ≡ true → message_of f ≡ Bad CutOff
+    pub cut_off : is_cut (walk_from 0 (start_of (pdu_of f)) (pdu_of f)) ≡ true → message_of f ≡ Err (Bad CutOff)
     cut_off c = by-pdu ∙ pdu-cut (pdu_of f) (start_of (pdu_of f)) (pdu-tlvs (pdu_of f) four k h) (ap not c)
 
     pub judged : is_cut (walk_from 0 (start_of (pdu_of f)) (pdu_of f)) ≡ false → message_of f ≡ judged_of (opcode_of (pdu_of f)) (flags_of (pdu_of f))

@@ -3,17 +3,19 @@ use Prim.Native.Nat.{ℕ}
 use mathlib.Core.Path.{◌≡◌, refl, sym, ap, ap₂, ◌∙◌}
 use mathlib.Core.Bool.{Bool, true, false, cond}
 use mathlib.Core.List.{List, []}
+use Rattle.std.specs.Prelude.{Result}
 use Rattle.std.specs.Borrow.{Bor, MutBor}
 use Rattle.base_octets.specs.Octets.{Octets}
 use Rattle.base_octets.proofs.Octets.{part-octets}
 use Rattle.state_settings.specs.Settings.{slots, Settings, settings_of, Shaped, address_octets, meg_octets, own_from, losspeer_from, meg_from}
 use Rattle.state_settings.specs.Valid.{valid}
 use Rattle.base_stamp.specs.declared.Stamp.{Stamp}
-use Rattle.state_view.specs.State.{State, shown}
-use Rattle.state_view.specs.Arguments.{reads, writes_session, writes_tick, writes_all, held, behind, fifth, left, left_tick, left_session}
+use Rattle.state_view.specs.State.{State, shown, state_lent}
+use Rattle.state_view.specs.Arguments.{writes_session, writes_tick, writes_all, fifth}
+use Rattle.state_view.specs.Arguments.{held_lent, left_tick_lent, left_session_lent, left_frame_lent}
 use Rattle.receive_class.specs.declared.Side.{Side}
 use Rattle.receive_class.specs.declared.Side.TheVariants as side
-use Rattle.call_setting.specs.declared.SettingAnswer.{SettingAnswer}
+use Rattle.call_setting.specs.declared.SettingRefusal.{SettingRefusal}
 use Rattle.call_setting.specs.declared.SettingTold.{SettingTold}
 use Rattle.call_setting.specs.Told.{setting_told}
 use Rattle.call_setting.specs.declared.Started.{Started}
@@ -45,7 +47,7 @@ side-back : (d : Side) → side_of (side_in d) ≡ d
 side-back side.Active = refl
 side-back side.Passive = refl
 
--- a frame as it is handed over behind the arrays: its side, its octets, two stamps, the buffer
+-- a frame as it is handed over behind settings and arrays: its side, its octets, two stamps, the buffer
 abbrev Framed : Type 0 → Type 0
 Framed X = Side × (Bor (List ℕ) × (Stamp × (Stamp × (MutBor (List ℕ) × X))))
 
@@ -58,35 +60,40 @@ arrival b =
 abbrev on_side : State → Arrival → Side → Outcome
 on_side s x d = in_words frame_answer (frame_of s d x.octets x.receive x.transmit x.buffer)
 
-pub on-frame-follows : (κs : _) (a : _) (r : _) (s : _) → on_frame.Post κs a r s → (o : Outcome) → Octets (arrival (behind a)).octets
-    → Said (shown (held writes_all a)) (call.frame (arrival (behind a))) o → leaves (frame_answer r) (shown (left a s)) (fifth (behind s)).now ≡ o
+-- what is handed over behind settings and four arrays
+abbrev behind_four : {A B C D E X : Type 0} → A × (B × (C × (D × (E × X)))) → X
+behind_four a = let (_, (_, (_, (_, (_, x))))) = a in x
+
+pub on-frame-follows : (κs : _) (a : _) (r : _) (s : _) → on_frame.Post κs a r s → (o : Outcome)
+    → Octets (arrival (behind_four a)).octets → Said (shown (held_lent writes_all a)) (call.frame (arrival (behind_four a))) o
+    → leaves (frame_answer r) (shown (left_frame_lent a s)) (fifth (behind_four s)).now ≡ o
 on-frame-follows κs a r s p o w q =
     let (is, (_, (_, (receive, transmit)))) = p in
     ap (in_words frame_answer) is
-    ∙ ap (on_side (shown (held writes_all a)) (arrival (behind a))) (sym (side-back (behind a).0))
+    ∙ ap (on_side (shown (held_lent writes_all a)) (arrival (behind_four a))) (sym (side-back (behind_four a).0))
     ∙ ours-follows.box.follows _ _ o (record { octets = w; receive = receive; transmit = transmit }) q
 
 pub tick-follows : (κs : _) (a : _) (r : _) (s : _) → tick.Post κs a r s → (o : Outcome)
-    → Said (shown (held writes_tick a)) (call.tick (behind a).0.now) o → leaves (tick_answer r) (shown (left_tick a s)) (behind s).0.now ≡ o
+    → Said (shown (held_lent writes_tick a)) (call.tick a.1.1.1.1.1.0.now) o
+    → leaves (tick_answer r) (shown (left_tick_lent a s)) s.1.1.1.1.1.0.now ≡ o
 tick-follows κs a r s p o q = ap (in_words tick_answer) p.0.0 ∙ ours-follows.box.follows _ _ o tt q
 
 pub clear-follows : (κs : _) (a : _) (r : _) (s : _) → clear.Post κs a r s → (o : Outcome)
-    → Said (shown (held writes_session a)) call.clear o → leaves (clear_answer r) (shown (left_session a s)) [] ≡ o
+    → Said (shown (held_lent writes_session a)) call.clear o → leaves (clear_answer r) (shown (left_session_lent a s)) [] ≡ o
 clear-follows κs a r s p o q = ap (in_words clear_answer) p.0.0 ∙ ours-follows.box.follows _ _ o tt q
 
 pub send_lmm-follows : (κs : _) (a : _) (r : _) (s : _) → send_lmm.Post κs a r s → (o : Outcome)
-    → Said (shown (held reads a)) (call.send_LMM (behind a).0.now) o → leaves (lmm_answer r) (shown (held reads a)) (behind s).0.now ≡ o
+    → Said (state_lent a.0) (call.send_LMM a.1.0.now) o → leaves (lmm_answer r) (state_lent a.0) s.1.0.now ≡ o
 send_lmm-follows κs a r s p o q = ap (in_words lmm_answer) p.0 ∙ ours-follows.box.follows _ _ o tt q
 
 pub send_dmm-follows : (κs : _) (a : _) (r : _) (s : _) → send_dmm.Post κs a r s → (o : Outcome)
-    → Said (shown (held reads a)) (call.send_DMM (behind a).0 (behind a).1.0.now) o
-    → leaves (dmm_answer r) (shown (held reads a)) (behind s).1.0.now ≡ o
+    → Said (state_lent a.0) (call.send_DMM a.1.0 a.1.1.0.now) o → leaves (dmm_answer r) (state_lent a.0) s.1.1.0.now ≡ o
 send_dmm-follows κs a r s p o q = ap (in_words dmm_answer) p.0.0 ∙ ours-follows.box.follows _ _ o p.1 q
 
 pub conditions-follows : (κs : _) (a : _) (r : _) (s : _) → conditions.Post κs a r s → (o : Outcome)
-    → Said (shown (held reads a)) call.conditions o → leaves (conditions_answer r) (shown (held reads a)) [] ≡ o
+    → Said (state_lent a.0) call.conditions o → leaves (conditions_answer r) (state_lent a.0) [] ≡ o
 conditions-follows κs a r s p o q =
-    ap (λ (t : ConditionsTold). leaves (conditions_answer t) (shown (held reads a)) []) p ∙ ours-follows.box.follows _ _ o tt q
+    ap (λ (t : ConditionsTold). leaves (conditions_answer t) (state_lent a.0) []) p ∙ ours-follows.box.follows _ _ o tt q
 
 -- settings that lie in arrays have their lengths, and their octets are the names'
 pub from_arrays : (words names ids : List ℕ) → Shaped slots (settings_of words names ids) → Octets names
@@ -121,7 +128,7 @@ new_setting-follows κs a r s p w before o q =
     let answer = ap (λ (x : Started). x.answer) p.0 ∙ starts.answers _ _ _ in
     let number = ap (λ (x : SettingTold). x.refusal) p.1.0 in
     let out = ap (λ (x : Started). shown x.state) p.0 ∙ starts.hands_out _ _ _ in
-    ap₂ (λ (x : SettingAnswer) (y : State). hands_out (setting_answer x) (taken_over before (setting_told r.answer).refusal y) y) answer
+    ap₂ (λ (x : Result Unit SettingRefusal) (y : State). hands_out (setting_answer x) (taken_over before (setting_told r.answer).refusal y) y) answer
     out
     ∙ ap (λ (n : ℕ). hands_out (setting_answer (answer_of t)) (taken_over before n (after_setting t)) (after_setting t)) number
     ∙ ap (λ (x : State). hands_out (setting_answer (answer_of t)) x (after_setting t)) (taken-over before t)

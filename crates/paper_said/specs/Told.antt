@@ -1,16 +1,16 @@
 -- The numbers that a caller is given are those of the paper's answer: what each function's `told` says agrees with how its answer is held
 -- against the paper. Definitions and the statement only.
-use Rattle.std.specs.Prelude.{ℕ, ◌≡◌, ℤ, pos}
+use Rattle.std.specs.Prelude.{ℕ, ◌≡◌, ℤ, pos, Result, Option}
 use Rattle.call_setting.specs.Told as Setting
-use Rattle.call_setting.specs.declared.SettingAnswer.{SettingAnswer}
+use Rattle.call_setting.specs.declared.SettingRefusal.{SettingRefusal}
 use Rattle.call_clear.specs.Clear as Clear
-use Rattle.call_clear.specs.declared.ClearAnswer.{ClearAnswer}
+use Rattle.call_clear.specs.declared.ClearRefusal.{ClearRefusal}
 use Rattle.call_send_answer.specs.Told.{tick_told, lmm_told, dmm_told}
-use Rattle.call_send_answer.specs.declared.DmmAnswer.{DmmAnswer}
-use Rattle.call_send_answer.specs.declared.LmmAnswer.{LmmAnswer}
-use Rattle.call_send_answer.specs.declared.TickAnswer.{TickAnswer}
+use Rattle.call_send_answer.specs.declared.DmmRefusal.{DmmRefusal}
+use Rattle.call_send_answer.specs.declared.SendRefusal.{SendRefusal}
 use Rattle.receive_answer.specs.Told as Frame
-use Rattle.receive_answer.specs.declared.FrameAnswer.{FrameAnswer}
+use Rattle.receive_answer.specs.declared.FrameRefusal.{FrameRefusal}
+use Rattle.receive_answer.specs.declared.FrameDone.{FrameDone}
 use Rattle.receive_answer.specs.declared.FrameTold.{FrameTold}
 use Rattle.paper_said.specs.Calls.{Answer, refused, dropped, passed, taken, written, loss, delay, delays, done, standing}
 use Rattle.paper_said.specs.Words.{setting_answer, frame_answer, clear_answer, tick_answer, lmm_answer, dmm_answer}
@@ -56,9 +56,9 @@ frame_as_numbers t = record {
 
 -- the numbers that each function returns are those of the paper's answer
 pub record ToldAlike : Type 0 where
-  pub setting : (r : SettingAnswer) → counted (Setting.setting_told r).refusal 0 0 ≡ answer_numbers (setting_answer r)
-  pub frame : (r : FrameAnswer) → frame_as_numbers (Frame.frame_told r) ≡ answer_numbers (frame_answer r)
-  pub tick : (r : TickAnswer) → counted (tick_told r).refusal 0 (tick_told r).length ≡ answer_numbers (tick_answer r)
-  pub clear : (r : ClearAnswer) → counted (Clear.clear_told r).refusal 0 0 ≡ answer_numbers (clear_answer r)
-  pub lmm : (r : LmmAnswer) → counted (lmm_told r).refusal 0 (lmm_told r).length ≡ answer_numbers (lmm_answer r)
-  pub dmm : (r : DmmAnswer) → counted (dmm_told r).refusal 0 (dmm_told r).length ≡ answer_numbers (dmm_answer r)
+  pub setting : (r : Result Unit SettingRefusal) → counted (Setting.setting_told r).refusal 0 0 ≡ answer_numbers (setting_answer r)
+  pub frame : (r : Result FrameDone FrameRefusal) → frame_as_numbers (Frame.frame_told r) ≡ answer_numbers (frame_answer r)
+  pub tick : (r : Result (Option ℕ) SendRefusal) → counted (tick_told r).refusal 0 (tick_told r).length ≡ answer_numbers (tick_answer r)
+  pub clear : (r : Result Unit ClearRefusal) → counted (Clear.clear_told r).refusal 0 0 ≡ answer_numbers (clear_answer r)
+  pub lmm : (r : Result ℕ SendRefusal) → counted (lmm_told r).refusal 0 (lmm_told r).length ≡ answer_numbers (lmm_answer r)
+  pub dmm : (r : Result ℕ DmmRefusal) → counted (dmm_told r).refusal 0 (dmm_told r).length ≡ answer_numbers (dmm_answer r)

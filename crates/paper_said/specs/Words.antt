@@ -1,20 +1,20 @@
 -- Each function's answer in the paper's words. Definitions only.
-use Rattle.std.specs.Prelude.{ℕ, cond, eqb, pos}
-use Rattle.call_setting.specs.declared.SettingAnswer.TheVariants as setting
-use Rattle.call_setting.specs.declared.SettingAnswer.{SettingAnswer}
-use Rattle.call_clear.specs.declared.ClearAnswer.TheVariants as cleared
-use Rattle.call_clear.specs.declared.ClearAnswer.{ClearAnswer}
+use Rattle.std.specs.Prelude.{ℕ, cond, eqb, pos, Result, Ok, Err, Option, Some, None}
+use Rattle.call_setting.specs.declared.SettingRefusal.TheVariants as setting
+use Rattle.call_setting.specs.declared.SettingRefusal.{SettingRefusal}
+use Rattle.call_clear.specs.declared.ClearRefusal.TheVariants as cleared
+use Rattle.call_clear.specs.declared.ClearRefusal.{ClearRefusal}
 use Rattle.call_conditions.specs.declared.ConditionFlags.{ConditionFlags}
 use Rattle.call_conditions.specs.declared.ConditionsTold.{ConditionsTold}
-use Rattle.call_send_answer.specs.declared.DmmAnswer.TheVariants as dmm
-use Rattle.call_send_answer.specs.declared.DmmAnswer.{DmmAnswer}
-use Rattle.call_send_answer.specs.declared.LmmAnswer.TheVariants as lmm
-use Rattle.call_send_answer.specs.declared.LmmAnswer.{LmmAnswer}
-use Rattle.call_send_answer.specs.declared.TickAnswer.TheVariants as ticked
-use Rattle.call_send_answer.specs.declared.TickAnswer.{TickAnswer}
+use Rattle.call_send_answer.specs.declared.DmmRefusal.TheVariants as dmm
+use Rattle.call_send_answer.specs.declared.DmmRefusal.{DmmRefusal}
+use Rattle.call_send_answer.specs.declared.SendRefusal.TheVariants as send
+use Rattle.call_send_answer.specs.declared.SendRefusal.{SendRefusal}
 use Rattle.receive_answer.specs.Told.{drop_of}
-use Rattle.receive_answer.specs.declared.FrameAnswer.TheVariants as answer
-use Rattle.receive_answer.specs.declared.FrameAnswer.{FrameAnswer}
+use Rattle.receive_answer.specs.declared.FrameRefusal.TheVariants as answer
+use Rattle.receive_answer.specs.declared.FrameDone.TheVariants as did
+use Rattle.receive_answer.specs.declared.FrameRefusal.{FrameRefusal}
+use Rattle.receive_answer.specs.declared.FrameDone.{FrameDone}
 use Rattle.receive_class.specs.declared.Side.TheVariants as side
 use Rattle.receive_class.specs.declared.Side.{Side}
 use Rattle.state_view.specs.State.{State}
@@ -25,49 +25,49 @@ abbrev pub side_of : call.ArrivalSide → Side
 side_of call.active = side.Active
 side_of call.passive = side.Passive
 
-abbrev pub setting_answer : SettingAnswer → Answer
-setting_answer setting.Invalid = refused 4
-setting_answer setting.Set = done
+abbrev pub setting_answer : Result Unit SettingRefusal → Answer
+setting_answer (Err setting.Invalid) = refused 4
+setting_answer (Ok u) = done
 
 -- the state that a caller holds after a new setting: what is returned, or, refused, what there was before
 abbrev pub taken_over : State → ℕ → State → State
 taken_over before refusal out = cond (eqb refusal 0) out before
 
-abbrev pub frame_answer : FrameAnswer → Answer
-frame_answer answer.NotWellFormed = refused 2
-frame_answer answer.BadLength = refused 1
-frame_answer answer.BadStamp = refused 6
-frame_answer answer.NoRoom = refused 3
-frame_answer answer.Full = refused 5
-frame_answer (answer.Dropped drop) = dropped (drop_of drop)
-frame_answer answer.Passed = passed
-frame_answer answer.Taken = taken
-frame_answer (answer.Replied n) = written n
-frame_answer answer.First = loss (pos 0) (pos 0)
-frame_answer (answer.Measured near far) = loss near far
-frame_answer (answer.TwoWay twoway) = delay twoway
-frame_answer (answer.AllWays twoway far near) = delays twoway far near
+abbrev pub frame_answer : Result FrameDone FrameRefusal → Answer
+frame_answer (Err answer.NotWellFormed) = refused 2
+frame_answer (Err answer.BadLength) = refused 1
+frame_answer (Err answer.BadStamp) = refused 6
+frame_answer (Err answer.NoRoom) = refused 3
+frame_answer (Err answer.Full) = refused 5
+frame_answer (Ok (did.Dropped drop)) = dropped (drop_of drop)
+frame_answer (Ok did.Passed) = passed
+frame_answer (Ok did.Taken) = taken
+frame_answer (Ok (did.Replied n)) = written n
+frame_answer (Ok did.First) = loss (pos 0) (pos 0)
+frame_answer (Ok (did.Measured near far)) = loss near far
+frame_answer (Ok (did.TwoWay twoway)) = delay twoway
+frame_answer (Ok (did.AllWays twoway far near)) = delays twoway far near
 
-abbrev pub clear_answer : ClearAnswer → Answer
-clear_answer cleared.NotWellFormed = refused 2
-clear_answer cleared.Cleared = done
+abbrev pub clear_answer : Result Unit ClearRefusal → Answer
+clear_answer (Err cleared.NotWellFormed) = refused 2
+clear_answer (Ok u) = done
 
-abbrev pub tick_answer : TickAnswer → Answer
-tick_answer ticked.NotWellFormed = refused 2
-tick_answer ticked.NoRoom = refused 3
-tick_answer ticked.Quiet = done
-tick_answer (ticked.Sent n) = written n
+abbrev pub tick_answer : Result (Option ℕ) SendRefusal → Answer
+tick_answer (Err send.NotWellFormed) = refused 2
+tick_answer (Err send.NoRoom) = refused 3
+tick_answer (Ok None) = done
+tick_answer (Ok (Some n)) = written n
 
-abbrev pub lmm_answer : LmmAnswer → Answer
-lmm_answer lmm.NotWellFormed = refused 2
-lmm_answer lmm.NoRoom = refused 3
-lmm_answer (lmm.Sent n) = written n
+abbrev pub lmm_answer : Result ℕ SendRefusal → Answer
+lmm_answer (Err send.NotWellFormed) = refused 2
+lmm_answer (Err send.NoRoom) = refused 3
+lmm_answer (Ok n) = written n
 
-abbrev pub dmm_answer : DmmAnswer → Answer
-dmm_answer dmm.NotWellFormed = refused 2
-dmm_answer dmm.BadStamp = refused 6
-dmm_answer dmm.NoRoom = refused 3
-dmm_answer (dmm.Sent n) = written n
+abbrev pub dmm_answer : Result ℕ DmmRefusal → Answer
+dmm_answer (Err dmm.NotWellFormed) = refused 2
+dmm_answer (Err dmm.BadStamp) = refused 6
+dmm_answer (Err dmm.NoRoom) = refused 3
+dmm_answer (Ok n) = written n
 
 abbrev pub raised : ConditionFlags → Raised
 raised c = record {

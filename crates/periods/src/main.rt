@@ -36,6 +36,7 @@ fn print_row(rt: &impl Print, code: u32) -> io::Result<()> {
 }
 
 // Whether the program was given an argument. It may be any octets, so it is not read as text.
+// The same text in each program: a library function needs a contract that leaves one result, and none can say what an argument is.
 fn has_argument(rt: &impl Env) -> bool {
     !matches!(rt.arg(1, &mut [0u8; 1]), Err(FillError::NotPresent))
 }

@@ -6,30 +6,30 @@
 ghost use Rattle.std.specs.Prelude.{◌≡◌};
 ghost use Rattle.receive_answer.specs.Told.{drop_of, absent, tell_frame, frame_told};
 
-// Why a frame is dropped.
+// Why a frame is dropped, by the paper's number.
 #[derive(Clone, Copy)]
 pub enum Drop {
     // D1: an OAM frame shorter than 18.
-    Short,
+    Short = 1,
     // D2: its level.
-    Level,
+    Level = 2,
     // D3: an opcode that is not handled.
-    Opcode,
+    Opcode = 3,
     // D4: a TLV offset below the opcode's.
-    Offset,
+    Offset = 4,
     // D5: the fixed part, a TLV or the End TLV missing.
-    CutOff,
+    CutOff = 5,
     // D6: it is not for us.
-    Destination,
+    Destination = 6,
     // D7: a field's value.
-    Value,
+    Value = 7,
     // D8: a delay that a signed 64-bit number cannot hold. Never given.
-    TooLarge,
+    TooLarge = 8,
 }
 
-// What a frame is answered.
+// Why a call with a frame is refused.
 #[derive(Clone, Copy)]
-pub enum FrameAnswer {
+pub enum FrameRefusal {
     // Refusal 2: the state is not well formed.
     NotWellFormed,
     // Refusal 1: not from 14 to 1,514 octets.
@@ -40,6 +40,11 @@ pub enum FrameAnswer {
     NoRoom,
     // Refusal 5: a good loss reply would start interval 1,000,000,001.
     Full,
+}
+
+// What was done with a frame. A drop is no refusal: the call is answered.
+#[derive(Clone, Copy)]
+pub enum FrameDone {
     Dropped(Drop),
     Passed,
     // A CCM, AIS or LCK, taken in.
@@ -57,7 +62,8 @@ pub enum FrameAnswer {
 }
 
 // An answer in the paper's numbers: the refusal, or 0; the drop, or 0; what was done (below), or 0 beside a refusal or a drop; the
-// reply's length; near and far loss; two-way delay, one-way far and one-way near. What is not formed is 0.
+// reply's length; near and far loss; two-way delay, one-way far and one-way near. What is not formed is 0. Numbers and
+// no enum: C is given them.
 #[repr(C)]
 #[derive(Clone, Copy)]
 pub struct FrameTold {
@@ -89,19 +95,11 @@ pub const TWO_WAY: u32 = 6;
 pub const ALL_WAYS: u32 = 7;
 
 // A drop's number.
+#[tactic(auto, unfolding(crate::specs::Told::drop_of))]
 fn number_of(drop: Drop) -> u32
     ensures { result ≡ drop_of drop }
 {
-    match drop {
-        Drop::Short => 1,
-        Drop::Level => 2,
-        Drop::Opcode => 3,
-        Drop::Offset => 4,
-        Drop::CutOff => 5,
-        Drop::Destination => 6,
-        Drop::Value => 7,
-        Drop::TooLarge => 8,
-    }
+    drop as u32
 }
 
 // The numbers of an answer without a loss or a delay.
@@ -156,22 +154,24 @@ fn delayed(done: u32, twoway: i64, far: i64, near: i64) -> FrameTold
 }
 
 // An answer in the paper's numbers: refusal, drop, what was done, length, near and far loss, two-way delay, one-way far and near.
-pub fn tell(answer: FrameAnswer) -> FrameTold
+#[tactic(auto, unfolding(crate::specs::Told::frame_told))]
+pub fn tell(answer: Result<FrameDone, FrameRefusal>) -> FrameTold
     ensures { result ≡ frame_told answer }
 {
+    // by this name and no `From`: lemma `tell_one`, the edits and the pages cite it
     match answer {
-        FrameAnswer::NotWellFormed => plain(2, 0, 0, 0),
-        FrameAnswer::BadLength => plain(1, 0, 0, 0),
-        FrameAnswer::BadStamp => plain(6, 0, 0, 0),
-        FrameAnswer::NoRoom => plain(3, 0, 0, 0),
-        FrameAnswer::Full => plain(5, 0, 0, 0),
-        FrameAnswer::Dropped(drop) => plain(0, number_of(drop), 0, 0),
-        FrameAnswer::Passed => plain(0, 0, PASSED, 0),
-        FrameAnswer::Taken => plain(0, 0, TAKEN, 0),
-        FrameAnswer::Replied(length) => plain(0, 0, REPLIED, length),
-        FrameAnswer::First => plain(0, 0, FIRST, 0),
-        FrameAnswer::Measured { near, far } => lost(near, far),
-        FrameAnswer::TwoWay { twoway } => delayed(TWO_WAY, twoway, 0, 0),
-        FrameAnswer::AllWays { twoway, far, near } => delayed(ALL_WAYS, twoway, far, near),
+        Err(FrameRefusal::NotWellFormed) => plain(2, 0, 0, 0),
+        Err(FrameRefusal::BadLength) => plain(1, 0, 0, 0),
+        Err(FrameRefusal::BadStamp) => plain(6, 0, 0, 0),
+        Err(FrameRefusal::NoRoom) => plain(3, 0, 0, 0),
+        Err(FrameRefusal::Full) => plain(5, 0, 0, 0),
+        Ok(FrameDone::Dropped(drop)) => plain(0, number_of(drop), 0, 0),
+        Ok(FrameDone::Passed) => plain(0, 0, PASSED, 0),
+        Ok(FrameDone::Taken) => plain(0, 0, TAKEN, 0),
+        Ok(FrameDone::Replied(length)) => plain(0, 0, REPLIED, length),
+        Ok(FrameDone::First) => plain(0, 0, FIRST, 0),
+        Ok(FrameDone::Measured { near, far }) => lost(near, far),
+        Ok(FrameDone::TwoWay { twoway }) => delayed(TWO_WAY, twoway, 0, 0),
+        Ok(FrameDone::AllWays { twoway, far, near }) => delayed(ALL_WAYS, twoway, far, near),
     }
 }

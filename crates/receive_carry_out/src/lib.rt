@@ -5,36 +5,40 @@
 
 ghost use Rattle.std.specs.Prelude.{◌≡◌};
 ghost use Rattle.base_laws.specs.Ended.{ended};
-ghost use Rattle.state_view.specs.State.{before, after};
+ghost use Rattle.state_view.specs.State.{at_start, at_end};
 ghost use Rattle.state_places.specs.Stored.{Whole};
 ghost use Rattle.receive_carry_out.specs.CarryOut.{delay_answer, carried_out};
 
 use base_stamp::Stamp;
-use receive_answer::{Drop, FrameAnswer};
+use receive_answer::{Drop, FrameDone, FrameRefusal};
 use receive_change::apply;
-use receive_delay::DelayAnswer;
+use receive_delay::{DelayValues, NoDelay};
 use receive_handle::Decision;
 use receive_respond::respond;
-use state_settings::{Names, Set, Slots};
-use state_view::{Run, Totals};
+use state_settings::{LentSettings, Slots};
+use state_view::{LentState, Run, Totals};
 
 // What a delay reply is answered, as a frame's answer.
-fn delay_answer(answer: DelayAnswer) -> FrameAnswer
+#[tactic(auto, unfolding(crate::specs::CarryOut::delay_answer))]
+fn delay_answer(answer: Result<DelayValues, NoDelay>) -> Result<FrameDone, FrameRefusal>
     ensures { result ≡ delay_answer answer }
 {
+    // no `From`: both types are other crates'
     match answer {
-        DelayAnswer::BadStamp => FrameAnswer::Dropped(Drop::Value),
-        DelayAnswer::TooLarge => FrameAnswer::Dropped(Drop::TooLarge),
-        DelayAnswer::TwoWay { twoway } => FrameAnswer::TwoWay { twoway },
-        DelayAnswer::AllWays { twoway, far, near } => FrameAnswer::AllWays { twoway, far, near },
+        Ok(DelayValues::TwoWay { twoway }) => Ok(FrameDone::TwoWay { twoway }),
+        Ok(DelayValues::AllWays { twoway, far, near }) => Ok(FrameDone::AllWays {
+            twoway,
+            far,
+            near,
+        }),
+        Err(NoDelay::BadStamp) => Ok(FrameDone::Dropped(Drop::Value)),
+        Err(NoDelay::TooLarge) => Ok(FrameDone::Dropped(Drop::TooLarge)),
     }
 }
 
 // Does with a frame what was decided about it: answer, state and buffer.
 pub fn carry_out(
-    set: &Set,
-    names: &Names,
-    ids: &Slots,
+    settings: LentSettings<'_>,
     timers: &mut Slots,
     rdi: &mut Slots,
     run: &mut Run,
@@ -44,20 +48,31 @@ pub fn carry_out(
     transmit: Stamp,
     decision: Decision,
     out: &mut [u8],
-) -> FrameAnswer
-    ensures out_after { ended result (after set names ids timers.new rdi.new run.new totals.new) out.new ≡
-        carried_out (before set names ids timers.old rdi.old run.old totals.old) frame.now receive transmit out.old decision }
+) -> Result<FrameDone, FrameRefusal>
+    ensures out_after { ended result (at_end settings timers.new rdi.new run.new totals.new) out.new ≡
+        carried_out (at_start settings timers.old rdi.old run.old totals.old) frame.now receive transmit out.old decision }
     ensures whole { Whole run.new totals.new }
 {
     // a view of an array has its length, and costs nothing
     let _words: &[u32] = run;
     let _both: &[i64] = totals;
     match decision {
-        Decision::Drops(drop) => FrameAnswer::Dropped(drop),
-        Decision::Passes => FrameAnswer::Passed,
-        Decision::Changes(change) => apply(set, names, ids, timers, rdi, run, totals, change),
+        Decision::Drops(drop) => Ok(FrameDone::Dropped(drop)),
+        Decision::Passes => Ok(FrameDone::Passed),
+        Decision::Changes(change) => apply(settings, timers, rdi, run, totals, change),
         Decision::Replies(request) => respond(
-            set, names, ids, timers, rdi, run, totals, frame, receive, transmit, request, out,
+            LentState {
+                settings,
+                timers,
+                rdi,
+                run,
+                totals,
+            },
+            frame,
+            receive,
+            transmit,
+            request,
+            out,
         ),
         Decision::Delays(answer) => delay_answer(answer),
     }

@@ -5,18 +5,18 @@
 
 ghost use Rattle.std.specs.Prelude.{◌≡◌, []};
 ghost use Rattle.base_laws.specs.Ended.{ended};
-ghost use Rattle.state_view.specs.State.{before, after, after_session};
+ghost use Rattle.state_view.specs.State.{at_start, at_end};
 ghost use Rattle.state_places.specs.Stored.{Whole};
 ghost use Rattle.receive_change.specs.Change.{answer_of, read_taken, one_more, applied};
 
 use base_period::hold_of;
-use loss_reading::LossAnswer;
+use loss_reading::{LossRefusal, Losses};
 use loss_session::Readings;
 use loss_step::take_reading;
-use receive_answer::{Drop, FrameAnswer};
+use receive_answer::{Drop, FrameDone, FrameRefusal};
 use receive_signals::{Signal, set_timers};
 use state_places::put_session;
-use state_settings::{Names, PERIOD, Set, Slots};
+use state_settings::{LentSettings, PERIOD, Slots};
 use state_view::{RECEIVED, Run, SENT, Totals, UNEXPECTED_LEVEL, session_of};
 
 // What a frame changes in the state.
@@ -37,26 +37,29 @@ pub enum Change {
 fn one_more(n: u32) -> u32
     ensures { result ≡ one_more n }
 {
-    std::num::wrapping_add_u32(n, 1)
+    n.wrapping_add(1)
 }
 
 // What a reading is answered, as a frame's answer.
-fn answer_of(answer: LossAnswer) -> FrameAnswer
+#[tactic(auto, unfolding(crate::specs::Change::answer_of))]
+fn answer_of(answer: Result<Option<Losses>, LossRefusal>) -> Result<FrameDone, FrameRefusal>
     ensures { result ≡ answer_of answer }
 {
+    // no `From`: both types are other crates'
     match answer {
-        LossAnswer::NotWellFormed => FrameAnswer::NotWellFormed,
-        LossAnswer::Full => FrameAnswer::Full,
-        LossAnswer::First => FrameAnswer::First,
-        LossAnswer::Measured { near, far } => FrameAnswer::Measured { near, far },
+        Ok(None) => Ok(FrameDone::First),
+        Ok(Some(losses)) => Ok(FrameDone::Measured {
+            near: losses.near,
+            far: losses.far,
+        }),
+        Err(LossRefusal::NotWellFormed) => Err(FrameRefusal::NotWellFormed),
+        Err(LossRefusal::Full) => Err(FrameRefusal::Full),
     }
 }
 
 // Takes the counts of a loss reply, with our received count beside them, into the session.
 fn take_counts(
-    set: &Set,
-    names: &Names,
-    ids: &Slots,
+    settings: LentSettings<'_>,
     timers: &Slots,
     rdi: &Slots,
     run: &mut Run,
@@ -64,9 +67,9 @@ fn take_counts(
     txf: u32,
     rxf: u32,
     txb: u32,
-) -> FrameAnswer
-    ensures totals_value { ended result (after_session set names ids timers.now rdi.now run.new totals.new) [] ≡
-        read_taken (before set names ids timers.now rdi.now run.old totals.old) txf rxf txb }
+) -> Result<FrameDone, FrameRefusal>
+    ensures totals_value { ended result (at_end settings timers.now rdi.now run.new totals.new) [] ≡
+        read_taken (at_start settings timers.now rdi.now run.old totals.old) txf rxf txb }
     ensures whole { Whole run.new totals.new }
 {
     let reading = Readings {
@@ -77,7 +80,7 @@ fn take_counts(
     };
     let updated = take_reading(session_of(run, totals), reading);
     let after = updated.session;
-    put_session(set, names, ids, timers, rdi, run, totals, after);
+    put_session(settings, timers, rdi, run, totals, after);
     let answer = updated.answer;
     answer_of(answer)
 }
@@ -85,17 +88,15 @@ fn take_counts(
 // Applies a change, and answers the frame: a service count one more, the unexpected-level timer with D2, what a message says, or a loss
 // reply's counts taken into the session with our received count.
 pub fn apply(
-    set: &Set,
-    names: &Names,
-    ids: &Slots,
+    settings: LentSettings<'_>,
     timers: &mut Slots,
     rdi: &mut Slots,
     run: &mut Run,
     totals: &mut Totals,
     change: Change,
-) -> FrameAnswer
-    ensures totals_value { ended result (after set names ids timers.new rdi.new run.new totals.new) [] ≡
-        applied (before set names ids timers.old rdi.old run.old totals.old) change }
+) -> Result<FrameDone, FrameRefusal>
+    ensures totals_value { ended result (at_end settings timers.new rdi.new run.new totals.new) [] ≡
+        applied (at_start settings timers.old rdi.old run.old totals.old) change }
     ensures whole { Whole run.new totals.new }
 {
     // a view of an array has its length, and costs nothing
@@ -105,23 +106,23 @@ pub fn apply(
         Change::Sent => {
             let n = one_more(run[SENT]);
             run[SENT] = n;
-            FrameAnswer::Passed
+            Ok(FrameDone::Passed)
         }
         Change::Received => {
             let n = one_more(run[RECEIVED]);
             run[RECEIVED] = n;
-            FrameAnswer::Passed
+            Ok(FrameDone::Passed)
         }
         Change::UnexpectedLevel => {
-            run[UNEXPECTED_LEVEL] = hold_of(set[PERIOD]);
-            FrameAnswer::Dropped(Drop::Level)
+            run[UNEXPECTED_LEVEL] = hold_of(settings.set[PERIOD]);
+            Ok(FrameDone::Dropped(Drop::Level))
         }
         Change::Told(signal) => {
-            set_timers(set, names, ids, timers, rdi, run, totals, signal);
-            FrameAnswer::Taken
+            set_timers(settings, timers, rdi, run, totals, signal);
+            Ok(FrameDone::Taken)
         }
         Change::Reading { txf, rxf, txb } => {
-            take_counts(set, names, ids, timers, rdi, run, totals, txf, rxf, txb)
+            take_counts(settings, timers, rdi, run, totals, txf, rxf, txb)
         }
     }
 }

@@ -8,6 +8,9 @@ use native.Mathlib.Omega.{arith}
 use lib.Dec.{ltb}
 use lib.ListN.{length, length-drop}
 use borrow.Author.Tests.{ltb-true, ltb-false, not-true, not-false}
+use Rattle.std.specs.Prelude.{Result, Ok, Err}
+use Rattle.frame_message_answer.specs.declared.NoMessage.{NoMessage}
+use Rattle.frame_message_answer.specs.declared.NoMessage.TheVariants as message
 use Rattle.base_laws.specs.Tests.{choose}
 use Rattle.base_laws.proofs.Tests.{known}
 use Rattle.base_stamp.specs.declared.Stamp.{Stamp}
@@ -18,18 +21,13 @@ use Rattle.frame_head.proofs.Heads.{oam-is}
 use Rattle.frame_opcodes.specs.Opcodes.{rule_of}
 use Rattle.frame_opcodes.proofs.Rules.{handled-known}
 use Rattle.frame_tlvs.specs.Tlvs.{walk_from, is_cut, tlvs_whole}
-use Rattle.frame_judge.specs.declared.Head.TheVariants.{Tlvs}
 use Rattle.frame_judge.specs.Judge.{judge_pdu}
 use Rattle.frame_judge.proofs.Judged.{pdu-offset, pdu-tlvs}
-use Rattle.frame_message_answer.specs.declared.MessageAnswer.{MessageAnswer}
-use Rattle.frame_message_answer.specs.declared.MessageAnswer.TheVariants as message
 use Rattle.frame_message.specs.Message.{period_code, code_good, judged_of, message_of}
 use Rattle.frame_message.proofs.GoodTests.{begins}
 use Rattle.frame_message.proofs.InPdu.{bad-head, cut_off, let_through, frame-length, frame-pdu}
 use Rattle.receive_answer.specs.declared.Drop.{Drop}
 use Rattle.receive_handle.specs.declared.Decision.{Decision}
-use Rattle.receive_decide.specs.declared.Looked.{Looked}
-use Rattle.receive_decide.specs.declared.Looked.TheVariants.{Drops, Good}
 use Rattle.receive_decide.specs.Decide.{is_ours, drop_for, answered_of, own_of}
 use Rattle.receive_decide.specs.OneLook.{look_at, by_look, OneLook}
 
@@ -46,29 +44,29 @@ module _ (t : Settings) (f : List ℕ) (receive : Stamp) where
   not-handled h = rw h
 
   module _ (h : (rule_of (opcode_of p)).handled ≡ true) where
-    reached : (m : MessageAnswer) → message_of f ≡ m → own_of t f receive ≡ answered_of t f receive m
+    reached : (m : Result ℕ NoMessage) → message_of f ≡ m → own_of t f receive ≡ answered_of t f receive m
     unfolding own_of
     reached m e = rw (h, e)
 
     too_long : length_good f ≡ false → own_of t f receive ≡ looked
     unfolding answered_of drop_for look_at by_look choose
-    too_long l = reached (message.Bad Length) (frame-length f l) ∙ rw (h, l)
+    too_long l = reached (Err (message.Bad Length)) (frame-length f l) ∙ rw (h, l)
 
     module _ (good : length_good f ≡ true) (oam : is_oam f ≡ true) (long : 4 ≤ length p) where
       low-offset : ltb (offset_of p) (rule_of (opcode_of p)).least ≡ true → own_of t f receive ≡ looked
       unfolding answered_of drop_for look_at by_look choose
       low-offset o =
-          reached (message.Bad Offset) (frame-pdu f good oam
+          reached (Err (message.Bad Offset)) (frame-pdu f good oam
           ∙ bad-head p Offset (pdu-offset p long (handled-known (opcode_of p) h) (ltb-true (offset_of p) (rule_of (opcode_of p)).least o)))
           ∙ rw (h, good, o)
 
       module _ (o : ltb (offset_of p) (rule_of (opcode_of p)).least ≡ false) where
-        starts : judge_pdu p ≡ Tlvs (start_of p)
+        starts : judge_pdu p ≡ Ok (start_of p)
         starts = pdu-tlvs p long (handled-known (opcode_of p) h) (ltb-false (offset_of p) (rule_of (opcode_of p)).least o)
 
         is_cut_lem : tlvs_whole (start_of p) p ≡ false → own_of t f receive ≡ looked
         unfolding answered_of drop_for look_at by_look choose
-        is_cut_lem w = reached (message.Bad CutOff) (frame-pdu f good oam ∙ cut_off p (start_of p) starts w) ∙ rw (h, good, o, w)
+        is_cut_lem w = reached (Err (message.Bad CutOff)) (frame-pdu f good oam ∙ cut_off p (start_of p) starts w) ∙ rw (h, good, o, w)
 
         module _ (w : tlvs_whole (start_of p) p ≡ true) where
           -- the reader lets it through: its addresses, then its period code
@@ -107,15 +105,15 @@ agrees t f receive oam long =
     (known (rule_of (opcode_of q)).handled)
 
 -- a drop is no good frame
-no_drop : {d : Drop} → Drops d ≡ Good → ⊥
+no_drop : {d : Drop} → ◌≡◌ {A = Result Unit Drop} (Err d) (Ok tt) → ⊥
 no_drop e = let z : ◌≡◌ {A = ℕ} 0 1 = cc in omega arith
 
 -- past a test that would drop it
-past : (test : Bool) (d : Drop) (x : Looked) → cond test (Drops d) x ≡ Good → (test ≡ false) × (x ≡ Good)
+past : (test : Bool) (d : Drop) (x : Result Unit Drop) → cond test (Err d) x ≡ Ok tt → (test ≡ false) × (x ≡ Ok tt)
 past true d x e = absurd (no_drop e)
 past false d x e = (refl, e)
 
-whole : (own losspeer f : List ℕ) → look_at own losspeer f ≡ Good → 4 + (rule_of (opcode_of (pdu_of f))).least ≤ length (pdu_of f)
+whole : (own losspeer f : List ℕ) → look_at own losspeer f ≡ Ok tt → 4 + (rule_of (opcode_of (pdu_of f))).least ≤ length (pdu_of f)
 unfolding look_at choose
 whole own losspeer f e =
     let q : List ℕ = pdu_of f in

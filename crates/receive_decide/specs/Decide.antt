@@ -1,6 +1,8 @@
 -- What is done with a frame, from the settings and the frame alone. The paper, rules 1 to 4. Definitions only.
-use Rattle.std.specs.Prelude.{ℕ, Bool, ◌&&◌, cond, List, eqb}
+use Rattle.std.specs.Prelude.{ℕ, Bool, ◌&&◌, cond, List, eqb, Result, Ok, Err}
 use Rattle.state_settings.specs.Settings.{Settings}
+use Rattle.frame_message_answer.specs.declared.NoMessage.{NoMessage}
+use Rattle.frame_message_answer.specs.declared.NoMessage.TheVariants as message
 use Rattle.base_stamp.specs.declared.Stamp.{Stamp}
 use Rattle.receive_answer.specs.declared.Drop.{Drop}
 use Rattle.receive_answer.specs.declared.Drop.TheVariants as drop
@@ -8,8 +10,6 @@ use Rattle.frame_reader_answer.specs.declared.Bad.{Bad}
 use Rattle.frame_reader_answer.specs.declared.Bad.TheVariants.{Length, Short, Opcode, Offset, CutOff}
 use Rattle.frame_head.specs.Head.{destination_of, source_of, pdu_of, level_of, opcode_of}
 use Rattle.frame_opcodes.specs.Opcodes.{rule_of}
-use Rattle.frame_message_answer.specs.declared.MessageAnswer.{MessageAnswer}
-use Rattle.frame_message_answer.specs.declared.MessageAnswer.TheVariants as message
 use Rattle.frame_message.specs.Message.{message_of}
 use Rattle.frame_message.specs.Told.{good_opcode}
 use Rattle.receive_class.specs.declared.Side.{Side}
@@ -46,10 +46,10 @@ drop_for Offset = drop.Offset
 drop_for CutOff = drop.CutOff
 
 -- D4 and D5, then D6, then D7, then the handler
-unfoldable pub answered_of : Settings → List ℕ → Stamp → MessageAnswer → Decision
-answered_of t f receive (message.Bad bad) = Drops (drop_for bad)
-answered_of t f receive message.PeriodCode = cond (is_ours t.own t.losspeer f) (Drops drop.Value) (Drops drop.Destination)
-answered_of t f receive (message.Message opcode) = cond (is_ours t.own t.losspeer f) (handle_of t (pdu_of f) receive (rule_of opcode).handler) (Drops drop.Destination)
+unfoldable pub answered_of : Settings → List ℕ → Stamp → Result ℕ NoMessage → Decision
+answered_of t f receive (Err (message.Bad bad)) = Drops (drop_for bad)
+answered_of t f receive (Err message.PeriodCode) = cond (is_ours t.own t.losspeer f) (Drops drop.Value) (Drops drop.Destination)
+answered_of t f receive (Ok opcode) = cond (is_ours t.own t.losspeer f) (handle_of t (pdu_of f) receive (rule_of opcode).handler) (Drops drop.Destination)
 
 -- D3 before them all: the loopback reply, which the reader knows, is not handled
 unfoldable pub own_of : Settings → List ℕ → Stamp → Decision

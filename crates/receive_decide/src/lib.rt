@@ -25,13 +25,6 @@ use receive_for_us::{good_destination, is_for_us};
 use receive_handle::{Decision, handle_message};
 use state_settings::{LEVEL, LOSSPEER, MEG, Names, Set, Slots};
 
-// What is found of a frame of our level: a reason to drop it, or none.
-#[derive(Clone, Copy)]
-enum Looked {
-    Drops(Drop),
-    Good,
-}
-
 // Whether a frame whose opcode has this row is for us.
 fn for_us(names: &Names, frame: &[u8], rule: Rule) -> bool
     requires behind_head_in_bounds { behind_head 4 ≤ length frame.now }
@@ -65,34 +58,34 @@ fn below(names: &Names, frame: &[u8]) -> Decision
     Decision::Drops(Drop::Level)
 }
 
-// Rule 4: a frame of our own level, whose opcode has this row, is looked at once: D3, D4, D5, D6 and D7 in turn.
-fn look(names: &Names, frame: &[u8], rule: Rule) -> Looked
+// Rule 4: a frame of our own level, whose opcode has this row, is looked at once: D3, D4, D5, D6 and D7 in turn, or good.
+fn look(names: &Names, frame: &[u8], rule: Rule) -> Result<(), Drop>
     requires behind_head_in_bounds { behind_head 4 ≤ length frame.now }
     requires rule_value { rule ≡ rule_of (opcode_of (pdu_of frame.now)) }
     ensures { result ≡ look_at (own_named names.now) (losspeer_named names.now) frame.now }
 {
     if !rule.handled {
-        return Looked::Drops(Drop::Opcode);
+        return Err(Drop::Opcode);
     }
     // refused before
     if LONGEST < frame.len() {
-        return Looked::Drops(Drop::Short);
+        return Err(Drop::Short);
     }
     let pdu = pdu_of(frame);
     let offset = pdu[3] as usize;
     if offset < rule.least {
-        return Looked::Drops(Drop::Offset);
+        return Err(Drop::Offset);
     }
     if !tlvs_whole(pdu, 4 + offset) {
-        return Looked::Drops(Drop::CutOff);
+        return Err(Drop::CutOff);
     }
     if !for_us(names, frame, rule) {
-        return Looked::Drops(Drop::Destination);
+        return Err(Drop::Destination);
     }
     if !code_good(rule, period_code_of(pdu[2])) {
-        return Looked::Drops(Drop::Value);
+        return Err(Drop::Value);
     }
-    Looked::Good
+    Ok(())
 }
 
 // Rule 4: a frame of our own level is dropped, or handled by its opcode's row.
@@ -104,8 +97,8 @@ fn own_level(set: &Set, names: &Names, ids: &Slots, frame: &[u8], receive: Stamp
     let pdu = pdu_of(frame);
     let rule = rule_of(pdu[1]);
     match look(names, frame, rule) {
-        Looked::Drops(drop) => Decision::Drops(drop),
-        Looked::Good => {
+        Err(drop) => Decision::Drops(drop),
+        Ok(()) => {
             let handler = rule.handler;
             handle_message(set, names, ids, pdu, receive, handler)
         }

@@ -6,13 +6,16 @@ use mathlib.Core.Logic.{⊎_elim}
 use native.Mathlib.Omega.{arith}
 use lib.IntN.{ℤ, pos, negsuc, nat_abs, ◌-ℤ◌}
 use borrow.Author.Tests.{lt-ltb}
+use Rattle.std.specs.Prelude.{Result, Ok, Err}
 use Rattle.base_laws.specs.Tests.{choose}
 use Rattle.base_laws.specs.Lists.{every}
 use Rattle.base_laws.proofs.Tests.{known}
 use Rattle.base_laws.proofs.Signed.{sub-size, less_size}
 use Rattle.base_stamp.specs.declared.Stamp.{Stamp}
-use Rattle.receive_delay.specs.declared.DelayAnswer.{DelayAnswer}
-use Rattle.receive_delay.specs.declared.DelayAnswer.TheVariants.{BadStamp, TooLarge, TwoWay, AllWays}
+use Rattle.receive_delay.specs.declared.NoDelay.{NoDelay}
+use Rattle.receive_delay.specs.declared.DelayValues.{DelayValues}
+use Rattle.receive_delay.specs.declared.NoDelay.TheVariants.{BadStamp, TooLarge}
+use Rattle.receive_delay.specs.declared.DelayValues.TheVariants.{TwoWay, AllWays}
 use Rattle.receive_delay.specs.Used.{instant, between, paired, usable}
 use Rattle.base_stamp.specs.Stamps.{Wire}
 use Rattle.receive_delay.specs.Delays.{there_and_back, without_stay, formed, held, delays_of, DelayLaws}
@@ -39,18 +42,18 @@ held-size (negsuc n) h = lt-ltb n (2 ^ 63) (omega arith)
 -- ── the cases ──
 
 module _ (txf rxf txb here : Stamp) where
-  pub delays-bad : usable txf rxf txb here ≡ false → delays_of txf rxf txb here ≡ BadStamp
+  pub delays-bad : usable txf rxf txb here ≡ false → delays_of txf rxf txb here ≡ Err BadStamp
   unfolding delays_of choose
   delays-bad u = rw u
 
   module _ (u : usable txf rxf txb here ≡ true) (all : nat_abs (between txf here) ≤ furthest) where
-    pub delays-two : paired rxf txb ≡ false → delays_of txf rxf txb here ≡ TwoWay (between txf here)
+    pub delays-two : paired rxf txb ≡ false → delays_of txf rxf txb here ≡ Ok (TwoWay (between txf here))
     unfolding delays_of choose every
     delays-two p = rw (u, p, held-size (between txf here) (omega arith))
 
     pub delays-all : paired rxf txb ≡ true → nat_abs (between rxf txb) ≤ furthest → nat_abs (between txf rxf) ≤ furthest
         → nat_abs (between txb here) ≤ furthest
-        → delays_of txf rxf txb here ≡ AllWays (without_stay txf rxf txb here) (between txf rxf) (between txb here)
+        → delays_of txf rxf txb here ≡ Ok (AllWays (without_stay txf rxf txb here) (between txf rxf) (between txb here))
     unfolding delays_of choose every
     delays-all p stay far near =
         rw (
@@ -64,17 +67,17 @@ module _ (txf rxf txb here : Stamp) where
 -- ── what is said ──
 
 -- the drop of an answer, and 1 where it is none
-numbered : DelayAnswer → ℕ
-numbered BadStamp = 7
-numbered TooLarge = 8
-numbered (TwoWay t) = 1
-numbered (AllWays t f n) = 1
+numbered : Result DelayValues NoDelay → ℕ
+numbered (Err BadStamp) = 7
+numbered (Err TooLarge) = 8
+numbered (Ok (TwoWay t)) = 1
+numbered (Ok (AllWays t f n)) = 1
 
 module _ (txf rxf txb here : Stamp) where
-  apart : (a b : DelayAnswer) → delays_of txf rxf txb here ≡ a → delays_of txf rxf txb here ≡ b → numbered a ≡ numbered b
+  apart : (a b : Result DelayValues NoDelay) → delays_of txf rxf txb here ≡ a → delays_of txf rxf txb here ≡ b → numbered a ≡ numbered b
   apart a b p q = ap numbered (sym p ∙ q)
 
-  never_d8 : Wire txf → Wire rxf → Wire txb → Wire here → delays_of txf rxf txb here ≡ TooLarge → ⊥
+  never_d8 : Wire txf → Wire rxf → Wire txb → Wire here → delays_of txf rxf txb here ≡ Err TooLarge → ⊥
   unfolding numbered
   never_d8 wt wr wb wh e =
       ⊎_elim
@@ -91,7 +94,7 @@ module _ (txf rxf txb here : Stamp) where
       (λ u. omega (arith, apart _ _ (delays-bad txf rxf txb here u) e))
       (known (usable txf rxf txb here))
 
-  large : usable txf rxf txb here ≡ true → every held (formed txf rxf txb here) ≡ false → delays_of txf rxf txb here ≡ TooLarge
+  large : usable txf rxf txb here ≡ true → every held (formed txf rxf txb here) ≡ false → delays_of txf rxf txb here ≡ Err TooLarge
   unfolding delays_of choose
   large u h = rw (u, h)
 
@@ -99,12 +102,12 @@ module _ (txf rxf txb here : Stamp) where
   unfolding delays_of choose numbered
   measured u h = rw (u, h) (either (paired rxf txb))
     where
-      either : (b : Bool) → numbered (cond b (AllWays (without_stay txf rxf txb here) (between txf rxf) (between txb here))
-          (TwoWay (there_and_back txf here))) ≡ 1
+      either : (b : Bool) → numbered (cond b (Ok (AllWays (without_stay txf rxf txb here) (between txf rxf) (between txb here)))
+          (Ok (TwoWay (there_and_back txf here)))) ≡ 1
       either true = refl
       either false = refl
 
-  no_d7 : usable txf rxf txb here ≡ true → delays_of txf rxf txb here ≡ BadStamp → ⊥
+  no_d7 : usable txf rxf txb here ≡ true → delays_of txf rxf txb here ≡ Err BadStamp → ⊥
   unfolding numbered
   no_d7 u e =
       ⊎_elim

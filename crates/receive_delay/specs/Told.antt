@@ -1,11 +1,13 @@
 -- The paper's number and values for each case of a delay answer: any other value beside a drop is 0, and so is a one-way delay that is not
 -- formed. Definitions and statements only.
-use Rattle.std.specs.Prelude.{ℕ, ◌≡◌, not, [], ◌∷◌, ℤ, pos}
+use Rattle.std.specs.Prelude.{ℕ, ◌≡◌, not, [], ◌∷◌, ℤ, pos, Result, Ok, Err}
 use Rattle.base_laws.specs.Tests.{choose}
 use Rattle.base_laws.specs.Lists.{every}
 use Rattle.base_stamp.specs.declared.Stamp.{Stamp}
-use Rattle.receive_delay.specs.declared.DelayAnswer.{DelayAnswer}
-use Rattle.receive_delay.specs.declared.DelayAnswer.TheVariants.{BadStamp, TooLarge, TwoWay, AllWays}
+use Rattle.receive_delay.specs.declared.NoDelay.{NoDelay}
+use Rattle.receive_delay.specs.declared.DelayValues.{DelayValues}
+use Rattle.receive_delay.specs.declared.NoDelay.TheVariants.{BadStamp, TooLarge}
+use Rattle.receive_delay.specs.declared.DelayValues.TheVariants.{TwoWay, AllWays}
 use Rattle.receive_delay.specs.Used.{between, paired, usable}
 use Rattle.receive_delay.specs.Delays.{there_and_back, without_stay, formed, held}
 
@@ -22,11 +24,11 @@ dropped n = record { drop = n; twoway = pos 0; far = pos 0; near = pos 0 }
 abbrev pub results : ℤ → ℤ → ℤ → DelayTold
 results t f n = record { drop = 0; twoway = t; far = f; near = n }
 
-unfoldable pub delay_told : DelayAnswer → DelayTold
-delay_told BadStamp = dropped 7
-delay_told TooLarge = dropped 8
-delay_told (TwoWay t) = results t (pos 0) (pos 0)
-delay_told (AllWays t f n) = results t f n
+unfoldable pub delay_told : Result DelayValues NoDelay → DelayTold
+delay_told (Err BadStamp) = dropped 7
+delay_told (Err TooLarge) = dropped 8
+delay_told (Ok (TwoWay t)) = results t (pos 0) (pos 0)
+delay_told (Ok (AllWays t f n)) = results t f n
 
 -- what a reply is answered, in the paper's numbers alone
 unfoldable pub delay_numbers : Stamp → Stamp → Stamp → Stamp → DelayTold
@@ -40,4 +42,4 @@ delay_numbers txf rxf txb here =
 
 -- beside a drop every other value is 0
 pub record DelayNumbers : Type 0 where
-  pub zeros : (a : DelayAnswer) → (((delay_told a).drop ≡ 0) → ⊥) → ((delay_told a).twoway ≡ pos 0) × ((delay_told a).far ≡ pos 0) × ((delay_told a).near ≡ pos 0)
+  pub zeros : (a : Result DelayValues NoDelay) → (((delay_told a).drop ≡ 0) → ⊥) → ((delay_told a).twoway ≡ pos 0) × ((delay_told a).far ≡ pos 0) × ((delay_told a).near ≡ pos 0)

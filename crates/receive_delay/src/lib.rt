@@ -12,13 +12,18 @@ ghost use Rattle.receive_delay.specs.Told.{delay_told, delay_numbers};
 
 use base_stamp::{Stamp, given_stamp, good_stamp};
 
-// What a delay reply is answered.
+// Why a delay reply gives no delays.
 #[derive(Clone, Copy)]
-pub enum DelayAnswer {
+pub enum NoDelay {
     // D7: a stamp that it uses has too many nanoseconds, or the caller's receive stamp is not given.
     BadStamp,
     // D8: a delay that a signed 64-bit number cannot hold. Never given.
     TooLarge,
+}
+
+// The delays that a delay reply gives.
+#[derive(Clone, Copy)]
+pub enum DelayValues {
     // The responder gave no pair of stamps: there and back, with its own time in it.
     TwoWay { twoway: i64 },
     // It gave both: there and back without its own time, and each way by itself.
@@ -66,19 +71,24 @@ fn stamps_good(txf: Stamp, rxf: Stamp, txb: Stamp, here: Stamp) -> bool
 //   rxf is RxTimeStampf, when the request came, by the responder's clock;
 //   txb is TxTimeStampb, when the reply left, by the responder's clock;
 //   here is when the reply came, by our clock.
-pub fn measure_delay(txf: Stamp, rxf: Stamp, txb: Stamp, here: Stamp) -> DelayAnswer
+pub fn measure_delay(
+    txf: Stamp,
+    rxf: Stamp,
+    txb: Stamp,
+    here: Stamp,
+) -> Result<DelayValues, NoDelay>
     ensures { (result ≡ delays_of txf rxf txb here) × (delay_told result ≡ delay_numbers txf rxf txb here) }
 {
     if !stamps_good(txf, rxf, txb, here) {
-        return DelayAnswer::BadStamp;
+        return Err(NoDelay::BadStamp);
     }
     let all = difference(txf, here);
     if !pair(rxf, txb) {
-        return DelayAnswer::TwoWay { twoway: all };
+        return Ok(DelayValues::TwoWay { twoway: all });
     }
-    DelayAnswer::AllWays {
+    Ok(DelayValues::AllWays {
         twoway: less(all, difference(rxf, txb)),
         far: difference(txf, rxf),
         near: difference(txb, here),
-    }
+    })
 }

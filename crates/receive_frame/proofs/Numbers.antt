@@ -4,6 +4,7 @@ use mathlib.Core.Path.{◌≡◌, refl, ap, ◌∙◌}
 use mathlib.Core.Bool.{◌&&◌, not}
 use mathlib.Core.List.{List, [], ◌∷◌}
 use lib.ListN.{length}
+use Rattle.std.specs.Prelude.{Result, Ok, Err}
 use Rattle.base_laws.specs.Ended.{Ended}
 use Rattle.base_laws.specs.Tests.{choose}
 use Rattle.base_laws.proofs.Tests.{choose-map}
@@ -15,12 +16,14 @@ use Rattle.state_view.specs.State.{State}
 use Rattle.state_view.specs.WellFormed.{well_formed}
 use Rattle.base_stamp.specs.declared.Stamp.{Stamp}
 use Rattle.base_stamp.specs.Stamps.{good}
-use Rattle.receive_delay.specs.declared.DelayAnswer.{DelayAnswer}
-use Rattle.receive_delay.specs.declared.DelayAnswer.TheVariants as delay
+use Rattle.receive_delay.specs.declared.NoDelay.{NoDelay}
+use Rattle.receive_delay.specs.declared.DelayValues.{DelayValues}
+use Rattle.receive_delay.specs.declared.NoDelay.TheVariants as delay
+use Rattle.receive_delay.specs.declared.DelayValues.TheVariants as delays
 use Rattle.frame_head.specs.Head.{length_good}
 use Rattle.message_parts.specs.Buffer.{no_room}
-use Rattle.message_reply.specs.declared.Replied.{Replied}
-use Rattle.message_reply.specs.declared.Replied.TheVariants.{CutOff, NoRoom, Octets}
+use Rattle.message_reply.specs.declared.ReplyRefusal.{ReplyRefusal}
+use Rattle.message_reply.specs.declared.ReplyRefusal.TheVariants.{CutOff, NoRoom}
 use Rattle.message_reply.specs.Replied.{cut_off, replied_of}
 use Rattle.receive_answer.specs.declared.FrameTold.{FrameTold}
 use Rattle.receive_answer.specs.Told.{drop_of, refused, frame_told}
@@ -36,7 +39,8 @@ use Rattle.receive_decide.specs.Decide.{decide_of}
 use Rattle.receive_frame.specs.Frame.{frame_of}
 use Rattle.receive_frame.specs.Numbers.{frame_loss_numbers, change_numbers, reply_numbers, frame_delay_numbers, decision_numbers}
 use Rattle.receive_frame.specs.Numbers.{frame_numbers, FramesTold}
-use Rattle.receive_answer.specs.declared.FrameAnswer.{FrameAnswer}
+use Rattle.receive_answer.specs.declared.FrameRefusal.{FrameRefusal}
+use Rattle.receive_answer.specs.declared.FrameDone.{FrameDone}
 
 loss-told : (s : LossSession) (r : Readings) → frame_told (answer_of (after_reading s r).answer) ≡ frame_loss_numbers s r
 unfolding after_reading frame_loss_numbers answer_of frame_told
@@ -54,15 +58,15 @@ reply-told : (fixed : ℕ) (request reply buffer : List ℕ)
     → frame_told (answer_for (replied_of fixed request reply buffer)) ≡ reply_numbers fixed request reply buffer
 unfolding answer_for frame_told drop_of
 reply-told fixed request reply buffer =
-    choose-map (λ (x : Replied). frame_told (answer_for x)) ((cut_off fixed request, CutOff) ∷ (no_room reply buffer, NoRoom) ∷ [])
-    (Octets (length reply))
+    choose-map (λ (x : Result ℕ ReplyRefusal). frame_told (answer_for x)) ((cut_off fixed request, Err CutOff) ∷ (no_room reply buffer, Err NoRoom) ∷ [])
+    (Ok (length reply))
 
-delay-told : (x : DelayAnswer) → frame_told (delay_answer x) ≡ frame_delay_numbers x
+delay-told : (x : Result DelayValues NoDelay) → frame_told (delay_answer x) ≡ frame_delay_numbers x
 unfolding delay_answer frame_told drop_of
-delay-told delay.BadStamp = refl
-delay-told delay.TooLarge = refl
-delay-told (delay.TwoWay twoway) = refl
-delay-told (delay.AllWays twoway far near) = refl
+delay-told (Err delay.BadStamp) = refl
+delay-told (Err delay.TooLarge) = refl
+delay-told (Ok (delays.TwoWay twoway)) = refl
+delay-told (Ok (delays.AllWays twoway far near)) = refl
 
 module _ (s : State) (f : List ℕ) (receive transmit : Stamp) (buffer : List ℕ) where
   decision-told : (d : Decision) → frame_told (carried_out s f receive transmit buffer d).answer
@@ -78,7 +82,7 @@ pub agree : (s : State) (side : Side) (f : List ℕ) (receive transmit : Stamp) 
     → frame_told (frame_of s side f receive transmit buffer).answer ≡ frame_numbers s side f receive transmit buffer
 unfolding frame_of frame_numbers frame_told
 agree s side f receive transmit buffer =
-    choose-map (λ (x : Ended State FrameAnswer). frame_told x.answer) _ _
+    choose-map (λ (x : Ended State (Result FrameDone FrameRefusal)). frame_told x.answer) _ _
     ∙ ap
     (λ (x : FrameTold).
     choose (

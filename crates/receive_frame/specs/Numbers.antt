@@ -1,6 +1,6 @@
 -- What a frame is answered, in the paper's numbers alone: a chain of rules from what is given, beside the one in Frame.antt that gives an
 -- answer. The paper, "Refusals", and rules 3 to 8. Definitions and the statement only.
-use Rattle.std.specs.Prelude.{ℕ, ◌≡◌, ◌&&◌, not, List, [], ◌∷◌, eqb, length}
+use Rattle.std.specs.Prelude.{ℕ, ◌≡◌, ◌&&◌, not, List, [], ◌∷◌, eqb, length, Result, Ok, Err}
 use Rattle.base_laws.specs.Tests.{choose}
 use Rattle.loss_session.specs.declared.Readings.{Readings}
 use Rattle.loss_session.specs.declared.LossSession.{LossSession}
@@ -11,8 +11,10 @@ use Rattle.state_view.specs.State.{State}
 use Rattle.state_view.specs.WellFormed.{well_formed}
 use Rattle.base_stamp.specs.declared.Stamp.{Stamp}
 use Rattle.base_stamp.specs.Stamps.{good}
-use Rattle.receive_delay.specs.declared.DelayAnswer.{DelayAnswer}
-use Rattle.receive_delay.specs.declared.DelayAnswer.TheVariants as delay
+use Rattle.receive_delay.specs.declared.NoDelay.{NoDelay}
+use Rattle.receive_delay.specs.declared.DelayValues.{DelayValues}
+use Rattle.receive_delay.specs.declared.NoDelay.TheVariants as delay
+use Rattle.receive_delay.specs.declared.DelayValues.TheVariants as delays
 use Rattle.frame_head.specs.Head.{length_good}
 use Rattle.message_parts.specs.Buffer.{no_room}
 use Rattle.message_reply.specs.Replied.{cut_off}
@@ -56,11 +58,11 @@ reply_numbers fixed request reply buffer =
     (tell_frame 0 0 3 (length reply) absent absent absent absent absent)
 
 -- rule 8: D7, D8, the two-way delay, 6, or all three, 7
-abbrev pub frame_delay_numbers : DelayAnswer → FrameTold
-frame_delay_numbers delay.BadStamp = dropped 7
-frame_delay_numbers delay.TooLarge = dropped 8
-frame_delay_numbers (delay.TwoWay twoway) = tell_frame 0 0 6 0 absent absent twoway absent absent
-frame_delay_numbers (delay.AllWays twoway onewayfar onewaynear) = tell_frame 0 0 7 0 absent absent twoway onewayfar onewaynear
+abbrev pub frame_delay_numbers : Result DelayValues NoDelay → FrameTold
+frame_delay_numbers (Err delay.BadStamp) = dropped 7
+frame_delay_numbers (Err delay.TooLarge) = dropped 8
+frame_delay_numbers (Ok (delays.TwoWay twoway)) = tell_frame 0 0 6 0 absent absent twoway absent absent
+frame_delay_numbers (Ok (delays.AllWays twoway onewayfar onewaynear)) = tell_frame 0 0 7 0 absent absent twoway onewayfar onewaynear
 
 abbrev pub decision_numbers : State → List ℕ → Stamp → Stamp → List ℕ → Decision → FrameTold
 decision_numbers s f receive transmit buffer (Drops drop) = dropped (drop_of drop)

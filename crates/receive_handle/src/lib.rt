@@ -17,7 +17,7 @@ use base_stamp::Stamp;
 use frame_opcodes::Handler;
 use receive_answer::Drop;
 use receive_change::Change;
-use receive_delay::{DelayAnswer, measure_delay};
+use receive_delay::{DelayValues, NoDelay, measure_delay};
 use receive_peer::ccm_signal;
 use receive_respond::Request;
 use receive_signals::Signal;
@@ -35,10 +35,10 @@ pub enum Decision {
     // It is answered.
     Replies(Request),
     // It gives delays, or is dropped for its stamps.
-    Delays(DelayAnswer),
+    Delays(Result<DelayValues, NoDelay>),
 }
 
-// The period code of an alarm; 0 where the PDU has no flags.
+// The period code of an alarm; 0 where the PDU has no flags, and no `Option`: so `frame_head.flags_of` has it.
 fn code_in(pdu: &[u8]) -> u32
     ensures { result ≡ period_code (flags_of pdu.now) }
 {

@@ -2,27 +2,16 @@
 // It looks at the settings and the PDU, and at no state.
 #![tactic(auto)]
 
-ghost use Rattle.std.specs.Prelude.{◌≡◌, take};
+ghost use Rattle.std.specs.Prelude.{◌≡◌};
 ghost use Rattle.state_settings.specs.Settings.{lent_settings};
 ghost use Rattle.receive_peer.specs.Peers.{ccm_signal};
 
 use base_bits::{mep_id_of, period_code_of, rdi_of};
 use base_compare::same_octets;
 use base_numbers::read_big;
-use base_words::place_of;
+use base_words::{front, place_of};
 use receive_signals::Signal;
 use state_settings::{COUNT, MEG, NAMES, Names, PERIOD, Set, Slots};
-
-// The used slots; all where there are fewer.
-fn front(slots: &[u32], count: u32) -> &[u32]
-    ensures { result.now ≡ take count slots.now }
-{
-    let used = count as usize;
-    if slots.len() < used {
-        return slots;
-    }
-    &slots[..used]
-}
 
 // What a CCM's PDU says: another MEG, no peer's MEP ID, or the peer in its slot with its RDI, and whether its period is unlike ours. One
 // too short for a MEG ID has not ours.

@@ -5,17 +5,17 @@
 
 ghost use Rattle.std.specs.Prelude.{◌≡◌};
 ghost use Rattle.state_settings.specs.Settings.{own_named};
-ghost use Rattle.state_view.specs.State.{before};
+ghost use Rattle.state_view.specs.State.{state_in};
 ghost use Rattle.receive_respond.specs.Respond.{answer_for, responded_of, left_after};
 
 use base_stamp::Stamp;
 use message_dmr::write_dmr;
 use message_lbr::write_lbr;
 use message_lmr::write_lmr;
-use message_reply::Replied;
-use receive_answer::{Drop, FrameAnswer};
-use state_settings::{Names, Set, Slots};
-use state_view::{RECEIVED, Run, SENT, Totals};
+use message_reply::ReplyRefusal;
+use receive_answer::{Drop, FrameDone, FrameRefusal};
+use state_settings::Names;
+use state_view::{LentState, RECEIVED, SENT};
 
 // A message that is answered.
 #[derive(Clone, Copy)]
@@ -35,42 +35,38 @@ fn own_address(names: &Names) -> [u8; 6]
 }
 
 // What writing a reply is answered, as a frame's answer.
-fn answer_for(replied: Replied) -> FrameAnswer
+#[tactic(auto, unfolding(crate::specs::Respond::answer_for))]
+fn answer_for(replied: Result<usize, ReplyRefusal>) -> Result<FrameDone, FrameRefusal>
     ensures { result ≡ answer_for replied }
 {
+    // no `From`: both types are other crates'
     match replied {
-        Replied::CutOff => FrameAnswer::Dropped(Drop::CutOff),
-        Replied::NoRoom => FrameAnswer::NoRoom,
-        Replied::Octets(n) => FrameAnswer::Replied(n),
+        Ok(n) => Ok(FrameDone::Replied(n)),
+        Err(ReplyRefusal::CutOff) => Ok(FrameDone::Dropped(Drop::CutOff)),
+        Err(ReplyRefusal::NoRoom) => Err(FrameRefusal::NoRoom),
     }
 }
 
 // Answers a request: the LBR, LMR or DMR of it in our name, with our counts or the caller's stamps.
 pub fn respond(
-    set: &Set,
-    names: &Names,
-    ids: &Slots,
-    timers: &Slots,
-    rdi: &Slots,
-    run: &Run,
-    totals: &Totals,
+    state: LentState<'_>,
     frame: &[u8],
     receive: Stamp,
     transmit: Stamp,
     request: Request,
     out: &mut [u8],
-) -> FrameAnswer
+) -> Result<FrameDone, FrameRefusal>
     ensures value { result ≡
-        responded_of (before set names ids timers.now rdi.now run.now totals.now) frame.now receive transmit out.old request }
+        responded_of (state_in state) frame.now receive transmit out.old request }
     ensures out_after { out.new ≡
-        left_after (before set names ids timers.now rdi.now run.now totals.now) frame.now receive transmit out.old request }
+        left_after (state_in state) frame.now receive transmit out.old request }
 {
-    let own = own_address(names);
+    let own = own_address(state.settings.names);
     match request {
         Request::Loopback => answer_for(write_lbr(out, frame, own)),
         Request::Loss => {
-            let received = run[RECEIVED];
-            let sent = run[SENT];
+            let received = state.run[RECEIVED];
+            let sent = state.run[SENT];
             answer_for(write_lmr(out, frame, own, received, sent))
         }
         Request::Delay => answer_for(write_dmr(out, frame, own, receive, transmit)),

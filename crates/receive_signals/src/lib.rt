@@ -3,12 +3,12 @@
 
 ghost use Rattle.std.specs.Prelude.{◌≡◌};
 ghost use Rattle.std.proofs.Math.ListN as ListN;
-ghost use Rattle.state_view.specs.State.{before, after_signal};
+ghost use Rattle.state_view.specs.State.{at_start, at_end};
 ghost use Rattle.state_places.specs.Stored.{Whole};
 ghost use Rattle.receive_signals.specs.Signals.{signalled};
 
 use base_period::hold_of;
-use state_settings::{Names, PERIOD, Set, Slots};
+use state_settings::{LentSettings, PERIOD, Slots};
 use state_view::{AIS, LCK, MISMERGE, Run, Totals, UNEXPECTED_MEP, UNEXPECTED_PERIOD};
 
 // What a message says.
@@ -39,22 +39,20 @@ fn put_slot(slots: &mut [u32], slot: usize, word: u32)
 
 // Sets what a message says: every timer to our own hold time, but those of AIS and LCK to that of the period in the frame.
 pub fn set_timers(
-    set: &Set,
-    names: &Names,
-    ids: &Slots,
+    settings: LentSettings<'_>,
     timers: &mut Slots,
     rdi: &mut Slots,
     run: &mut Run,
     totals: &Totals,
     signal: Signal,
 )
-    ensures totals_value { after_signal set names ids timers.new rdi.new run.new totals.now ≡ signalled (before set names ids timers.old rdi.old run.old totals.now) signal }
+    ensures totals_value { at_end settings timers.new rdi.new run.new totals.now ≡ signalled (at_start settings timers.old rdi.old run.old totals.now) signal }
     ensures whole { Whole run.new totals.now }
 {
     // a view of an array has its length, and costs nothing
     let _words: &[u32] = run;
     let _both: &[i64] = totals;
-    let hold = hold_of(set[PERIOD]);
+    let hold = hold_of(settings.set[PERIOD]);
     match signal {
         Signal::Mismerge => {
             run[MISMERGE] = hold;

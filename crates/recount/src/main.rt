@@ -12,9 +12,10 @@ ghost use Rattle.std.specs.Prelude.{◌<◌, ◌≤◌, length};
 use loss_session::{LossSession, cleared};
 use std::env::FillError;
 use std::io::Read;
+use std::ops::ControlFlow;
 use std::rt::Env;
 use stored_line::LINE;
-use stored_replies::{REPLY, recount};
+use stored_replies::{REPLY, RecountRefusal, recount};
 
 // The octets read at a time: whole replies, so that none is split between two chunks.
 const CHUNK: usize = 16384;
@@ -22,14 +23,8 @@ const CHUNK: usize = 16384;
 // Room for a record of each.
 const ROOM: usize = CHUNK / REPLY * LINE;
 
-// The session after a chunk, and whether more may come.
-#[derive(Clone, Copy)]
-struct Turn {
-    session: LossSession,
-    more: bool,
-}
-
 // Reads until the buffer is full or the input ends; returns how many octets came. A read that fails ends the input.
+// The same text in each program: a library function needs a contract that leaves one result, and none can say what an input gives.
 fn read_full(input: &mut impl Read, buffer: &mut [u8]) -> usize
     ensures { result ≤ length buffer.new }
 {
@@ -82,20 +77,11 @@ fn print(out: &impl Print, err: &impl Print, records: &[u8; ROOM], n: usize) -> 
     false
 }
 
-// Says why it ends, if it does; returns whether it goes on. The session is well formed and the room is enough, so nothing is ever refused.
-fn goes_on(err: &impl Print, session: LossSession, refusal: u32, halted: u32, left: usize) -> bool {
-    if refusal != 0 {
-        say(err, b"recount: refused ", refusal as u64, b"\n");
-        return false;
-    }
-    if halted != 0 {
+// Says why it ends, if it does; returns whether it goes on.
+fn goes_on(err: &impl Print, session: LossSession, halted: bool, left: usize) -> bool {
+    if halted {
         say_next(err, session);
-        say(
-            err,
-            b"refused ",
-            halted as u64,
-            b", no interval is left for it\n",
-        );
+        say(err, b"refused ", HALTED, b", no interval is left for it\n");
         return false;
     }
     if left != 0 {
@@ -111,33 +97,51 @@ fn goes_on(err: &impl Print, session: LossSession, refusal: u32, halted: u32, le
     true
 }
 
-// Reads a chunk and writes the records of its replies.
+// The paper's number of a halt: a session without an interval left.
+const HALTED: u64 = 5;
+
+// The paper's number of a refusal.
+fn number_of(refusal: RecountRefusal) -> u64 {
+    match refusal {
+        RecountRefusal::NotWellFormed => 2,
+        RecountRefusal::NoRoom => 3,
+    }
+}
+
+// Reads a chunk and writes the records of its replies; answers the session after it, as a break where nothing more is to be read.
 fn work_chunk(
     input: &mut impl Read,
     out: &impl Print,
     err: &impl Print,
     session: LossSession,
-) -> Turn {
+) -> ControlFlow<LossSession, LossSession> {
     let mut chunk = [0u8; CHUNK];
     let got = read_full(input, &mut chunk);
     if got == 0 {
-        return Turn {
-            session,
-            more: false,
-        };
+        return ControlFlow::Break(session);
     }
     let mut records = [0u8; ROOM];
-    let done = recount(&mut records, &chunk[..got], session);
-    let after = done.session;
-    let written = print(out, err, &records, done.taken);
-    let fine = goes_on(err, after, done.refusal, done.halted, got % REPLY);
-    Turn {
-        session: after,
-        more: written & fine,
+    match recount(&mut records, &chunk[..got], session) {
+        // never: the session is well formed, and ROOM is what it needs
+        Err(refusal) => {
+            say(err, b"recount: refused ", number_of(refusal), b"\n");
+            ControlFlow::Break(session)
+        }
+        Ok(done) => {
+            let after = done.session;
+            let written = print(out, err, &records, done.taken);
+            let fine = goes_on(err, after, done.halted, got % REPLY);
+            if written & fine {
+                ControlFlow::Continue(after)
+            } else {
+                ControlFlow::Break(after)
+            }
+        }
     }
 }
 
 // Whether the program was given an argument. It may be any octets, so it is not read as text.
+// The same text in each program: a library function needs a contract that leaves one result, and none can say what an argument is.
 fn has_argument(rt: &impl Env) -> bool {
     !matches!(rt.arg(1, &mut [0u8; 1]), Err(FillError::NotPresent))
 }
@@ -155,11 +159,12 @@ fn main(rt: HostRuntime) {
     let mut session = cleared();
     // a loop must be shown to end, and nothing says that input does
     for _ in 0..u64::MAX {
-        let t = work_chunk(&mut input, &out, &err, session);
-        session = t.session;
-        if !t.more {
-            say_count(&err, session);
-            return;
+        match work_chunk(&mut input, &out, &err, session) {
+            ControlFlow::Continue(after) => session = after,
+            ControlFlow::Break(after) => {
+                say_count(&err, after);
+                return;
+            }
         }
     }
 }

@@ -2,9 +2,9 @@
 // At a bad call it prints `bad call`, says on standard error which call that is and where it begins, and stops. Any argument gets a usage
 // line there, and nothing is printed. What a call is, what it is answered and how octets and numbers are written is proved in
 // the crates below; here is only which call goes where, and in which words its answer is printed. State and session are held by value: a
-// handler takes what is held, lends the state's seven arrays from there, and returns what is then held; what a new setting returns
-// becomes the held state. 267 calls `loss_lent::answer`, since no caller that lends a struct is covered by the toolchain. A part at a
-// fixed place of a call is read from the program's array of 2,000 octets, so no handler tests a length.
+// handler takes what is held, lends the state from there, and returns what is then held; what a new setting returns becomes the held state.
+// 267 calls `loss_lent::answer`, the rule by value, as all is held here. A part at a fixed place of a call is read from the program's array
+// of 2,000 octets, so no handler tests a length.
 #![tactic(auto)]
 
 mod body;
@@ -38,11 +38,10 @@ use std::rt::Env;
 // Room for the longest line: 1,600 octets in hex, and the answer before them.
 const LINE: usize = 4096;
 
-// What is held from call to call, whether more may come, and the octets after the length of the call that was run.
+// What is held after a call that was run, and how many octets it had behind its length.
 #[derive(Clone, Copy)]
 struct Turn {
     held: Held,
-    more: bool,
     used: usize,
 }
 
@@ -120,19 +119,9 @@ fn print(rt: &impl Print, line: &[u8; LINE], n: usize) -> bool {
 
 // A bad call: the last line, and no more. Standard error says which it is, counted from 1, and the octet where it begins, counted from 0.
 // What is not taken there is lost, since nothing comes after it.
-fn bad(rt: &(impl Print + Eprint), held: Held, number: u64, at: u64) -> Turn {
+fn bad(rt: &(impl Print + Eprint), number: u64, at: u64) {
     let _ = println!(rt; "bad call");
     let _ = eprintln!(rt; "replay: call {number}, at octet {at}: bad call");
-    ended(held)
-}
-
-// Nothing more is run.
-fn ended(held: Held) -> Turn {
-    Turn {
-        held,
-        more: false,
-        used: 0,
-    }
 }
 
 // Runs a call with its part of the buffer, and writes its whole line. That the part fits, `is_call` has tested.
@@ -155,22 +144,30 @@ fn run_part(
     looked(after, length)
 }
 
-// Runs a call and prints its line.
-fn run_whole(rt: &impl Print, held: Held, call: &[u8; MOST], n: usize, room: usize) -> Turn {
+// Runs a call and prints its line; none where standard output takes no more.
+fn run_whole(
+    rt: &impl Print,
+    held: Held,
+    call: &[u8; MOST],
+    n: usize,
+    room: usize,
+) -> Option<Turn> {
     let mut buffer = [0u8; ROOM];
     refill(&mut buffer);
     let mut line = [0u8; LINE];
     let ran = run_part(held, call, n, &mut buffer, room, &mut line);
-    let more = print(rt, &line, ran.length);
     let after = ran.held;
-    Turn {
-        held: after,
-        more,
-        used: n,
+    if !print(rt, &line, ran.length) {
+        return None;
     }
+    Some(Turn {
+        held: after,
+        used: n,
+    })
 }
 
 // Reads until the buffer is full or the input ends; returns how many octets came. A read that fails ends the input.
+// The same text in each program: a library function needs a contract that leaves one result, and none can say what an input gives.
 fn read_full(input: &mut impl Read, buffer: &mut [u8]) -> usize
     ensures { result ≤ length buffer.new }
 {
@@ -192,29 +189,33 @@ fn fetch(input: &mut impl Read, call: &mut [u8], length: usize) -> bool {
     read_full(input, &mut call[0..length]) == length
 }
 
-// Reads the next call, of this number and at this octet, and runs it: nothing more where the input ends before it.
+// Reads the next call, of this number and at this octet, and runs it; none where nothing more is to be run: the input has ended, the call is
+// bad, or standard output takes no more.
 fn take_call(
     rt: &(impl Print + Eprint),
     input: &mut impl Read,
     held: Held,
     number: u64,
     at: u64,
-) -> Turn {
+) -> Option<Turn> {
     let mut head = [0u8; 2];
     let got = read_full(input, &mut head);
     if got == 0 {
-        return ended(held);
+        return None;
     }
     let length = call_length(&head);
     if (got < 2) | (length == 0) {
-        return bad(rt, held, number, at);
+        bad(rt, number, at);
+        return None;
     }
     let mut call = [0u8; MOST];
     if !fetch(input, &mut call, length) {
-        return bad(rt, held, number, at);
+        bad(rt, number, at);
+        return None;
     }
     if !is_call(rest(&call, 0, length)) {
-        return bad(rt, held, number, at);
+        bad(rt, number, at);
+        return None;
     }
     let room = room_of(rest(&call, 0, length));
     run_whole(rt, held, &call, length, room)
@@ -226,6 +227,7 @@ fn place_after(at: u64, used: usize) -> u64 {
 }
 
 // Whether the program was given an argument. It may be any octets, so it is not read as text.
+// The same text in each program: a library function needs a contract that leaves one result, and none can say what an argument is.
 fn has_argument(rt: &impl Env) -> bool {
     !matches!(rt.arg(1, &mut [0u8; 1]), Err(FillError::NotPresent))
 }
@@ -242,11 +244,12 @@ fn main(rt: HostRuntime) {
     let mut at: u64 = 0;
     // a loop must be shown to end, and nothing says that input does
     for number in 1..=u64::MAX {
-        let t = take_call(&rt, &mut input, held, number, at);
-        held = t.held;
-        if !t.more {
-            return;
+        match take_call(&rt, &mut input, held, number, at) {
+            Some(turn) => {
+                held = turn.held;
+                at = place_after(at, turn.used);
+            }
+            None => return,
         }
-        at = place_after(at, t.used);
     }
 }

@@ -32,20 +32,14 @@ pub(crate) fn run_read_settings(call: &[u8; MOST], n: usize, line: &mut [u8]) ->
     if read.refusal != 0 {
         return refused(line, read.refusal);
     }
-    let set = read.set;
-    let names = read.names;
-    let ids = read.ids;
-    let body = body_of(&set, &names, &ids);
+    let body = body_of(&read.set, &read.names, &read.ids);
     worded(line, b"settings", &body)
 }
 
 // 269: a stored record of settings.
 pub(crate) fn run_write_settings(call: &[u8; MOST], out: &mut [u8], line: &mut [u8]) -> usize {
     let read = settings_to_write(call);
-    let set = read.set;
-    let names = read.names;
-    let ids = read.ids;
-    let told = stored_record::tell(write_settings(out, &set, &names, &ids));
+    let told = stored_record::tell(write_settings(out, &read.set, &read.names, &read.ids));
     sent(line, told.refusal, told.length)
 }
 

@@ -18,8 +18,7 @@ pub(crate) fn put_session(held: Held, call: &[u8; MOST], line: &mut [u8]) -> Ran
     measured(held, session, write_word(line, 0, b"set"))
 }
 
-// 267: one more reading. The rule by value, of which the lent function of `linkbox_session` only stores the result: no caller that lends a
-// struct is covered.
+// 267: one more reading, by the rule by value, of which the lent function of `linkbox_session` only stores the result.
 pub(crate) fn run_measure(held: Held, call: &[u8; MOST], line: &mut [u8]) -> Ran {
     let all: &[u8] = call;
     let before = held.session;

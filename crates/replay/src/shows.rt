@@ -13,14 +13,7 @@ use state_view::StateArrays;
 
 // 261: an LMM.
 pub(crate) fn run_lmm(state: StateArrays, out: &mut [u8], line: &mut [u8]) -> usize {
-    let set = state.set;
-    let names = state.names;
-    let ids = state.ids;
-    let timers = state.timers;
-    let rdi = state.rdi;
-    let run = state.run;
-    let totals = state.totals;
-    let told = tell_lmm(send_lmm(&set, &names, &ids, &timers, &rdi, &run, &totals, out));
+    let told = tell_lmm(send_lmm(state.lent(), out));
     sent(line, told.refusal, told.length)
 }
 
@@ -31,37 +24,13 @@ pub(crate) fn run_dmm(
     out: &mut [u8],
     line: &mut [u8],
 ) -> usize {
-    let set = state.set;
-    let names = state.names;
-    let ids = state.ids;
-    let timers = state.timers;
-    let rdi = state.rdi;
-    let run = state.run;
-    let totals = state.totals;
-    let told = tell_dmm(send_dmm(
-        &set,
-        &names,
-        &ids,
-        &timers,
-        &rdi,
-        &run,
-        &totals,
-        stamp(call, 4),
-        out,
-    ));
+    let told = tell_dmm(send_dmm(state.lent(), stamp(call, 4), out));
     sent(line, told.refusal, told.length)
 }
 
 // 264: the held state's octets.
 pub(crate) fn show_state(state: StateArrays, line: &mut [u8]) -> usize {
-    let set = state.set;
-    let names = state.names;
-    let ids = state.ids;
-    let timers = state.timers;
-    let rdi = state.rdi;
-    let run = state.run;
-    let totals = state.totals;
-    let shown = state_octets(&set, &names, &ids, &timers, &rdi, &run, &totals);
+    let shown = state_octets(state.lent());
     worded(line, b"state", &shown)
 }
 
@@ -115,14 +84,7 @@ fn others(line: &mut [u8], at: usize, flags: ConditionFlags) -> usize {
 
 // 272: which conditions are active.
 pub(crate) fn run_conditions(state: StateArrays, line: &mut [u8]) -> usize {
-    let set = state.set;
-    let names = state.names;
-    let ids = state.ids;
-    let timers = state.timers;
-    let rdi = state.rdi;
-    let run = state.run;
-    let totals = state.totals;
-    let told = conditions(&set, &names, &ids, &timers, &rdi, &run, &totals);
+    let told = conditions(state.lent());
     if told.refusal != 0 {
         return refused(line, told.refusal);
     }
@@ -130,6 +92,6 @@ pub(crate) fn run_conditions(state: StateArrays, line: &mut [u8]) -> usize {
     let lost = flags.lost;
     let heard = flags.rdi;
     let start = write_word(line, 0, b"conditions");
-    let at = peers(line, start, set[COUNT], &ids, &lost, &heard);
+    let at = peers(line, start, state.set[COUNT], &state.ids, &lost, &heard);
     others(line, at, flags)
 }

@@ -18,10 +18,7 @@ use state_view::StateArrays;
 // 257: what the setting returns becomes the held state: the state that it starts with, zeros where it is refused.
 pub(crate) fn run_setting(held: Held, call: &[u8; MOST], line: &mut [u8]) -> Ran {
     let read = settings(call);
-    let set = read.set;
-    let names = read.names;
-    let ids = read.ids;
-    let started = new_setting(&set, &names, &ids);
+    let started = new_setting(&read.set, &read.names, &read.ids);
     let answer = started.answer;
     let state = started.state;
     let told = call_setting::tell(answer);
@@ -30,6 +27,7 @@ pub(crate) fn run_setting(held: Held, call: &[u8; MOST], line: &mut [u8]) -> Ran
 
 // The side that an octet names.
 fn side_of(octet: u8) -> Side {
+    // no `From`: both types are others'
     if octet == 0 {
         Side::Active
     } else {
@@ -82,22 +80,14 @@ pub(crate) fn run_frame(
     out: &mut [u8],
     line: &mut [u8],
 ) -> Ran {
-    let mut after = held.state;
-    let set = after.set;
-    let names = after.names;
-    let ids = after.ids;
-    let mut timers = after.timers;
-    let mut rdi = after.rdi;
-    let mut run = after.run;
-    let mut totals = after.totals;
+    let before = held.state;
+    let mut after = before;
     let answer = on_frame(
-        &set,
-        &names,
-        &ids,
-        &mut timers,
-        &mut rdi,
-        &mut run,
-        &mut totals,
+        before.lent().settings,
+        &mut after.timers,
+        &mut after.rdi,
+        &mut after.run,
+        &mut after.totals,
         side_of(call[2]),
         rest(call, 21, n),
         stamp(call, 5),
@@ -105,10 +95,6 @@ pub(crate) fn run_frame(
         out,
     );
     let told = receive_answer::tell(answer);
-    after.timers = timers;
-    after.rdi = rdi;
-    after.run = run;
-    after.totals = totals;
     stepped(held, after, frame_said(line, told))
 }
 
@@ -122,44 +108,32 @@ fn tick_said(line: &mut [u8], refusal: u32, length: usize) -> usize {
 
 // 259: a tick.
 pub(crate) fn run_tick(held: Held, out: &mut [u8], line: &mut [u8]) -> Ran {
-    let mut after = held.state;
-    let set = after.set;
-    let names = after.names;
-    let ids = after.ids;
-    let mut timers = after.timers;
-    let rdi = after.rdi;
-    let mut run = after.run;
-    let totals = after.totals;
+    let before = held.state;
+    let mut after = before;
     let answer = tick(
-        &set,
-        &names,
-        &ids,
-        &mut timers,
-        &rdi,
-        &mut run,
-        &totals,
+        before.lent().settings,
+        &mut after.timers,
+        &before.rdi,
+        &mut after.run,
+        &before.totals,
         out,
     );
     let told = call_send_answer::tell_tick(answer);
-    after.timers = timers;
-    after.run = run;
     stepped(held, after, tick_said(line, told.refusal, told.length))
 }
 
 // 260: a clear.
 pub(crate) fn run_clear(held: Held, line: &mut [u8]) -> Ran {
-    let mut after = held.state;
-    let set = after.set;
-    let names = after.names;
-    let ids = after.ids;
-    let timers = after.timers;
-    let rdi = after.rdi;
-    let mut run = after.run;
-    let mut totals = after.totals;
-    let answer = clear(&set, &names, &ids, &timers, &rdi, &mut run, &mut totals);
+    let before = held.state;
+    let mut after = before;
+    let answer = clear(
+        before.lent().settings,
+        &before.timers,
+        &before.rdi,
+        &mut after.run,
+        &mut after.totals,
+    );
     let told = call_clear::tell(answer);
-    after.run = run;
-    after.totals = totals;
     stepped(held, after, done(line, told.refusal, b"cleared"))
 }
 

@@ -26,6 +26,7 @@ const KINDS: usize = 16;
 const PLACES: [usize; 17] = [0, 3, 2, 0, 2, 2, 0, 0, 0, 0, 0, 0, 2, 0, 2, 0, 0];
 
 // The length in a call's first two octets; 0 where no call is so long.
+// A 0 and no `Option`: the statement `replay_calls.Calls` (`bad`) says it so, and 0 is no call's length.
 pub fn call_length(head: &[u8; 2]) -> usize
     ensures { result ≡ call_length head.now }
 {
@@ -40,6 +41,7 @@ pub fn call_length(head: &[u8; 2]) -> usize
 }
 
 // The row of the tables that a call number has; as many as there are rows for a number that is no call's.
+// No `Option`: each table ends with a row for those numbers, so that a table is read by any row, with no test beside it.
 pub fn row_of(number: u32) -> usize
     ensures { result ≡ row_of number }
 {
@@ -60,6 +62,7 @@ pub fn hands_over(number: u32) -> bool
 }
 
 // How long a part of the buffer a call passes in; 0 where it passes in none.
+// No `Option`: 0 is a length too, and the two callers hand over an empty part and compare with `ROOM` without a test.
 pub fn room_of(call: &[u8]) -> usize
     ensures { result ≡ room_of call.now }
 {

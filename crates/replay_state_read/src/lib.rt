@@ -22,11 +22,9 @@ fn words_in(from: &[u8], at: usize, n: usize) -> Slots
 {
     let mut words = [0u32; PEERS];
     let mut place = at;
-    let mut i: usize = 0;
-    while i < PEERS {
-        words[i] = read_little(from, place, n);
+    for word in words.iter_mut() {
+        *word = read_little(from, place, n);
         place += n;
-        i += 1;
     }
     words
 }

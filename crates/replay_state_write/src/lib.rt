@@ -1,10 +1,10 @@
-// A state written as its 194 octets from its seven arrays.
+// A lent state written as its 194 octets.
 #![tactic(auto)]
 
 ghost use Rattle.std.specs.Prelude.{◌≡◌, [], ◌∷◌, ◌+◌, ◌*◌, ◌≤◌, length, get_or};
 ghost use Rattle.base_laws.specs.Lists.{laid};
 ghost use Rattle.state_settings.specs.Settings.{slots};
-ghost use Rattle.state_view.specs.State.{before};
+ghost use Rattle.state_view.specs.State.{state_in};
 ghost use Rattle.replay_state.specs.Words.{words_octets};
 ghost use Rattle.replay_state.specs.State.{state_octets, running_octets};
 
@@ -12,9 +12,9 @@ use base_numbers::write_little;
 use base_octets::copy_octets;
 use replay_session::session_octets;
 use replay_state::STATE;
-use state_settings::{Names, Set, Slots};
+use state_settings::LentSettings;
 use state_view::{
-    AIS, LCK, MISMERGE, NEXT, RECEIVED, Run, SENT, Totals, UNEXPECTED_LEVEL, UNEXPECTED_MEP,
+    AIS, LCK, LentState, MISMERGE, NEXT, RECEIVED, Run, SENT, UNEXPECTED_LEVEL, UNEXPECTED_MEP,
     UNEXPECTED_PERIOD, session_of,
 };
 use stored_settings_body_write::body_of;
@@ -25,11 +25,9 @@ fn write_words(into: &mut [u8], at: usize, n: usize, words: &[u32])
     ensures { into.new ≡ laid at (words_octets n words.now) into.old }
 {
     let mut place = at;
-    let mut i: usize = 0;
-    while i < words.len() {
-        write_little(into, place, n, words[i]);
+    for &word in words {
+        write_little(into, place, n, word);
         place += n;
-        i += 1;
     }
 }
 
@@ -58,26 +56,26 @@ fn write_running(into: &mut [u8], timers: &[u32], rdi: &[u32], run: &Run)
 }
 
 // The octets of a state: nothing is tested, and what does not fit in a field's octets is left out.
-pub fn state_octets(
-    set: &Set,
-    names: &Names,
-    ids: &Slots,
-    timers: &Slots,
-    rdi: &Slots,
-    run: &Run,
-    totals: &Totals,
-) -> [u8; STATE]
-    ensures { result ≡ state_octets (before set names ids timers.now rdi.now run.now totals.now) }
+pub fn state_octets(state: LentState<'_>) -> [u8; STATE]
+    ensures { result ≡ state_octets (state_in state) }
 {
+    let LentState {
+        settings,
+        timers,
+        rdi,
+        run,
+        totals,
+    } = state;
+    let LentSettings { set, names, ids } = settings;
     // a view of an array has its length, and costs nothing
     let _names: &[u8] = names;
     let _slots: &[u32] = ids;
     let slot_timers: &[u32] = timers;
     let slot_rdi: &[u32] = rdi;
-    let settings = body_of(set, names, ids);
+    let settings_octets = body_of(set, names, ids);
     let session = session_octets(session_of(run, totals));
     let mut octets = [0u8; STATE];
-    copy_octets(&mut octets, 0, &settings);
+    copy_octets(&mut octets, 0, &settings_octets);
     write_running(&mut octets, slot_timers, slot_rdi, run);
     copy_octets(&mut octets, 157, &session);
     octets

@@ -13,7 +13,7 @@ use std::env::FillError;
 use std::io::Read;
 use std::rt::Env;
 use stored_sheet::header;
-use stored_sheet_lines::{LONGEST, Lines, write_lines};
+use stored_sheet_lines::{LONGEST, Printed, SheetRefusal, write_lines};
 
 // The octets of a record.
 const RECORD: u64 = 24;
@@ -25,6 +25,7 @@ const CHUNK: usize = 24576;
 const ROOM: usize = 3 * CHUNK + LONGEST;
 
 // Reads until the buffer is full or the input ends; returns how many octets came. A read that fails ends the input.
+// The same text in each program: a library function needs a contract that leaves one result, and none can say what an input gives.
 fn read_full(input: &mut impl Read, buffer: &mut [u8]) -> usize
     ensures { result ≤ length buffer.new }
 {
@@ -93,12 +94,12 @@ fn turn(rt: &(impl Print + Eprint), input: &mut impl Read, at: u64) -> bool {
     let mut text = [0u8; ROOM];
     match write_lines(&mut text, &chunk[..got]) {
         // never: ROOM is what it needs
-        Lines::NoRoom => {
+        Err(SheetRefusal::NoRoom) => {
             let _ = eprintln!(rt; "sheet: too little room for a chunk");
             false
         }
-        Lines::All(n) => print(rt, &text, n),
-        Lines::Stopped(n) => {
+        Ok(Printed::All(n)) => print(rt, &text, n),
+        Ok(Printed::Stopped(n)) => {
             if print(rt, &text, n) {
                 complain(rt, &text, n, at);
             }
@@ -108,6 +109,7 @@ fn turn(rt: &(impl Print + Eprint), input: &mut impl Read, at: u64) -> bool {
 }
 
 // Whether the program was given an argument. It may be any octets, so it is not read as text.
+// The same text in each program: a library function needs a contract that leaves one result, and none can say what an argument is.
 fn has_argument(rt: &impl Env) -> bool {
     !matches!(rt.arg(1, &mut [0u8; 1]), Err(FillError::NotPresent))
 }

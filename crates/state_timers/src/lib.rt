@@ -2,30 +2,21 @@
 #![tactic(auto)]
 
 ghost use Rattle.std.specs.Prelude.{◌≡◌};
-ghost use Rattle.state_view.specs.State.{before};
+ghost use Rattle.state_view.specs.State.{state_in};
 ghost use Rattle.state_view.specs.WellFormed.{timers_good, next_good};
 
-use state_settings::{Names, Set, Slots};
 use state_view::{
-    AIS, LCK, MISMERGE, Run, Totals, UNEXPECTED_LEVEL, UNEXPECTED_MEP, UNEXPECTED_PERIOD,
+    AIS, LCK, LentState, MISMERGE, UNEXPECTED_LEVEL, UNEXPECTED_MEP, UNEXPECTED_PERIOD,
 };
 
 // The longest that an AIS or LCK holds: 3.5 minutes.
 const ALARM_MOST: u32 = 126_000;
 
 // Whether no timer of a condition is above its hold time.
-pub fn timers_good(
-    set: &Set,
-    names: &Names,
-    ids: &Slots,
-    timers: &Slots,
-    rdi: &Slots,
-    run: &Run,
-    totals: &Totals,
-    hold: u32,
-) -> bool
-    ensures { result ≡ timers_good (before set names ids timers.now rdi.now run.now totals.now) hold }
+pub fn timers_good(state: LentState<'_>, hold: u32) -> bool
+    ensures { result ≡ timers_good (state_in state) hold }
 {
+    let run = state.run;
     (run[MISMERGE] <= hold)
         & (run[UNEXPECTED_LEVEL] <= hold)
         & (run[UNEXPECTED_MEP] <= hold)

@@ -1,7 +1,8 @@
--- A call's arguments as they are passed in: the seven arrays of a state, which come first in every call, and what the call brings after
--- them. Each place is named here once. Definitions only.
+-- A call's arguments as they are passed in: the seven arrays of a state, which come first in each call of C, or the settings and the four
+-- other arrays, which come first inside, and what the call brings after them. Each place is named here once. Definitions only.
 use Rattle.std.specs.Prelude.{ℕ, Bool, true, false, List, ℤ}
 use Rattle.std.specs.Borrow.{Bor, MutBor}
+use Rattle.state_settings.specs.declared.LentSettings.{LentSettings}
 use Rattle.state_view.specs.declared.StateArrays.{StateArrays}
 
 -- an array that is lent, to be read or to be written, and what is in it
@@ -88,6 +89,51 @@ abbrev pub left_session : {X Y : Type 0} → Arrays writes_session X → Arrays 
 left_session a s =
     let before = held writes_session a in
     anew before before.timers before.rdi (held writes_session s).run (held writes_session s).totals
+
+-- the four arrays of a state behind its settings, and X after them
+abbrev pub Four : Writes → Type 0 → Type 0
+Four w X = Array w.timers (List ℕ) × (Array w.rdi (List ℕ) × (Array w.run (List ℕ) × (Array w.totals (List ℤ) × X)))
+
+-- what is in settings that are lent together, and in the four
+abbrev pub held_lent : (w : Writes) {X : Type 0} → LentSettings × Four w X → StateArrays
+held_lent w a =
+    let (lent, (timers, (rdi, (run, (totals, _))))) = a in
+    record {
+      set = lent.set.now;
+      names = lent.names.now;
+      ids = lent.ids.now;
+      timers = in_array w.timers (List ℕ) timers;
+      rdi = in_array w.rdi (List ℕ) rdi;
+      run = in_array w.run (List ℕ) run;
+      totals = in_array w.totals (List ℤ) totals;
+    }
+
+-- what a call that writes running words and totals leaves of them
+abbrev pub left_session_lent : {L X Y : Type 0} → LentSettings × Four writes_session X → L × Four writes_session Y → StateArrays
+left_session_lent a s =
+    let before = held_lent writes_session a in
+    let (_, (_, (_, (run, (totals, _))))) = s in
+    anew before before.timers before.rdi run.now totals.now
+
+-- what a call that writes timers and running words leaves of them
+abbrev pub left_tick_lent : {L X Y : Type 0} → LentSettings × Four writes_tick X → L × Four writes_tick Y → StateArrays
+left_tick_lent a s =
+    let before = held_lent writes_tick a in
+    let (_, (timers, (_, (run, _)))) = s in
+    anew before timers.now before.rdi run.now before.totals
+
+-- what a call that writes timers, RDI and running words leaves of them
+abbrev pub left_signal_lent : {L X Y : Type 0} → LentSettings × Four writes_signal X → L × Four writes_signal Y → StateArrays
+left_signal_lent a s =
+    let before = held_lent writes_signal a in
+    let (_, (timers, (rdi, (run, _)))) = s in
+    anew before timers.now rdi.now run.now before.totals
+
+-- what a call that writes all four leaves of them
+abbrev pub left_frame_lent : {L X Y : Type 0} → LentSettings × Four writes_all X → L × Four writes_all Y → StateArrays
+left_frame_lent a s =
+    let (_, (timers, (rdi, (run, (totals, _))))) = s in
+    anew (held_lent writes_all a) timers.now rdi.now run.now totals.now
 
 -- one that writes timers and running words
 abbrev pub left_tick : {X Y : Type 0} → Arrays writes_tick X → Arrays writes_tick Y → StateArrays

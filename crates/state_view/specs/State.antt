@@ -2,10 +2,13 @@
 -- and 7. Definitions only.
 use Rattle.std.specs.Prelude.{ℕ, List, [], ◌∷◌, ℤ, pos, get_or}
 use Rattle.std.specs.Borrow.{Bor}
+use denote.Triple.Both.{Both}
 use Rattle.state_settings.specs.Settings.{Settings, settings_of, Lent}
+use Rattle.state_settings.specs.declared.LentSettings.{LentSettings}
 use Rattle.loss_session.specs.declared.LossSession.{LossSession}
 use Rattle.loss_session.specs.Session.{readings}
 use Rattle.state_view.specs.declared.StateArrays.{StateArrays}
+use Rattle.state_view.specs.declared.LentState.{LentState}
 
 -- how many running words a box has, and how many totals of loss
 abbrev pub run_words : ℕ
@@ -91,6 +94,20 @@ shown a = view_of a.set a.names a.ids a.timers a.rdi a.run a.totals
 -- and of arrays that are lent to a call: no call writes the settings, and of the others the content at a moment is named
 abbrev pub lying : Bor (List ℕ) → Bor (List ℕ) → Bor (List ℕ) → List ℕ → List ℕ → List ℕ → List ℤ → State
 lying set names ids timers rdi run totals = view_of set.now names.now ids.now timers rdi run totals
+
+-- of a state that is lent to be read; and as a contract speaks of it
+abbrev pub state_lent : LentState → State
+state_lent s = lying s.settings.set s.settings.names s.settings.ids s.timers.now s.rdi.now s.run.now s.totals.now
+
+abbrev pub state_in : Both LentState LentState → State
+state_in lent = state_lent lent.entry
+
+-- of settings that are lent to be read, and the other arrays by their content when the call begins; when it ends
+abbrev pub at_start : Both LentSettings LentSettings → List ℕ → List ℕ → List ℕ → List ℤ → State
+at_start lent timers rdi run totals = let s = lent.entry in lying s.set s.names s.ids timers rdi run totals
+
+abbrev pub at_end : Both LentSettings LentSettings → List ℕ → List ℕ → List ℕ → List ℤ → State
+at_end lent timers rdi run totals = let s = lent.entry in lying s.set s.names s.ids timers rdi run totals
 
 -- the state when a call begins: the other arrays as they are then
 abbrev pub before : Lent → Lent → Lent → List ℕ → List ℕ → List ℕ → List ℤ → State

@@ -1,6 +1,6 @@
 -- When a state is well formed. The paper, "Refusals": settings valid; no timer above its hold time, AIS and LCK 126,000; ticks to the next
 -- CCM from 1 to the period; unused peer slots without timer or RDI; and the session's rules. Definitions and the statement only.
-use Rattle.std.specs.Prelude.{ℕ, ◌≤◌, ◌<◌, ◌≡◌, List, Bool, true, ◌&&◌, ◌↔◌, leb, length, get_or, drop}
+use Rattle.std.specs.Prelude.{ℕ, ◌≤◌, ◌<◌, ◌≡◌, List, Bool, true, ◌&&◌, ◌↔◌, leb, get_or, drop}
 use Rattle.base_laws.specs.Lists.{every}
 use Rattle.base_words.specs.Words.{within}
 use Rattle.base_period.specs.Periods.{ticks_of, hold_of}

@@ -1,4 +1,4 @@
-// What a box knows, where it is kept and when it is well formed: a state is lent in seven arrays, and any content is a value.
+// What a box knows, where it is kept and when it is well formed: a state is seven arrays, lent together, and any content is a value.
 // `state_view.view_of` says which word is where, and every definition speaks of the record that it gives. When a state is well formed is
 // said here, as rules, one field each (`state_view.WellFormed`), and as a test (`state_view.well_formed`), and both agree; `state_timers`,
 // `state_slots` and `state_well_formed` carry the test out. A word is 32 bits wide, whatever its range, so that any content is a value
@@ -6,10 +6,10 @@
 #![tactic(auto)]
 
 ghost use Rattle.std.specs.Prelude.{◌≡◌};
-ghost use Rattle.state_view.specs.State.{session_in};
+ghost use Rattle.state_view.specs.State.{session_in, at_start, shown, state_lent};
 
 use loss_session::{LossSession, Readings};
-use state_settings::{Names, Set, Slots};
+use state_settings::{LentSettings, Names, Set, Slots};
 
 // How many running words there are, and how many totals: the definitions have theirs, `run_words` and `loss_totals`.
 pub const RUN: usize = 15;
@@ -67,6 +67,54 @@ pub struct StateArrays {
     pub rdi: Slots,
     pub run: Run,
     pub totals: Totals,
+}
+
+// A state, lent to be read.
+#[derive(Clone, Copy)]
+pub struct LentState<'a> {
+    pub settings: LentSettings<'a>,
+    pub timers: &'a Slots,
+    pub rdi: &'a Slots,
+    pub run: &'a Run,
+    pub totals: &'a Totals,
+}
+
+impl StateArrays {
+    // The state in these arrays, lent to be read.
+    pub fn lent(&self) -> LentState<'_>
+        ensures { state_lent result ≡ shown self.now }
+    {
+        LentState {
+            settings: LentSettings {
+                set: &self.set,
+                names: &self.names,
+                ids: &self.ids,
+            },
+            timers: &self.timers,
+            rdi: &self.rdi,
+            run: &self.run,
+            totals: &self.totals,
+        }
+    }
+}
+
+// A state lent from its parts. A function may write one such struct and no second of the same references: who lends twice calls this.
+pub fn lend<'a>(
+    settings: LentSettings<'a>,
+    timers: &'a Slots,
+    rdi: &'a Slots,
+    run: &'a Run,
+    totals: &'a Totals,
+) -> LentState<'a>
+    ensures { state_lent result ≡ at_start settings timers.now rdi.now run.now totals.now }
+{
+    LentState {
+        settings,
+        timers,
+        rdi,
+        run,
+        totals,
+    }
 }
 
 // The loss session of a state.

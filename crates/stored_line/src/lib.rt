@@ -17,16 +17,7 @@ pub struct LossLine {
     pub intervals: u32,
 }
 
-// What reading a loss line is answered.
-#[derive(Clone, Copy)]
-pub enum LineAnswer {
-    // Refusal 7: no whole record of kind 2, or its values break a rule.
-    Refused,
-    // The line; its record is the first 24 octets.
-    Line(LossLine),
-}
-
-// An answer in the paper's numbers: the refusal, or 0, and the line's values.
+// An answer in the paper's numbers: the refusal, or 0, and the line's values. Numbers and no enum: C is given them.
 #[repr(C)]
 #[derive(Clone, Copy)]
 pub struct LineTold {
@@ -36,18 +27,20 @@ pub struct LineTold {
     pub far: i64,
 }
 
-// An answer in the paper's numbers.
-pub fn tell(answer: LineAnswer) -> LineTold
+// A line that was read, or none, refusal 7, in the paper's numbers.
+#[tactic(auto, unfolding(crate::specs::LineCalls::line_told))]
+pub fn tell(answer: Option<LossLine>) -> LineTold
     ensures { result ≡ line_told answer }
 {
+    // by this name and no `From`: lemma `tell_one`, the edits and the pages cite it
     match answer {
-        LineAnswer::Refused => LineTold {
+        None => LineTold {
             refusal: 7,
             intervals: 0,
             near: 0,
             far: 0,
         },
-        LineAnswer::Line(line) => LineTold {
+        Some(line) => LineTold {
             refusal: 0,
             intervals: line.intervals,
             near: line.near,

@@ -10,8 +10,8 @@ ghost use Rattle.stored_line.specs.LineCalls.{read_line, write_line, line_writte
 use base_numbers::{read_little, write_little};
 use base_signed::{read_little_signed, write_little_signed};
 use loss_session::{LossSession, Readings, well_formed};
-use stored_line::{LineAnswer, LossLine};
-use stored_record::{RecordAnswer, is_record, write_record};
+use stored_line::LossLine;
+use stored_record::{RecordRefusal, is_record, write_record};
 
 // The record's kind, and the octets of its body.
 const KIND: u16 = 2;
@@ -32,12 +32,7 @@ fn keeps_rules(line: LossLine) -> bool
     well_formed(LossSession {
         kept: 1,
         intervals: line.intervals,
-        last: Readings {
-            txf: 0,
-            rxf: 0,
-            txb: 0,
-            ours: 0,
-        },
+        last: Readings::default(),
         near: line.near,
         far: line.far,
     })
@@ -55,22 +50,23 @@ fn line_in(from: &[u8]) -> LossLine
     }
 }
 
-// Reads the loss line at the front of the octets. What is behind its record is not looked at.
-pub fn read_line(from: &[u8]) -> LineAnswer
+// Reads the loss line at the front of the octets; none, refusal 7, where there is no whole record of kind 2 or its values break a rule.
+// What is behind its record is not looked at.
+pub fn read_line(from: &[u8]) -> Option<LossLine>
     ensures { (result ≡ read_line from.now) × (line_told result ≡ line_numbers from.now) }
 {
     if !is_record(from, KIND, BODY) {
-        return LineAnswer::Refused;
+        return None;
     }
     let line = line_in(from);
     if !keeps_rules(line) {
-        return LineAnswer::Refused;
+        return None;
     }
-    LineAnswer::Line(line)
+    Some(line)
 }
 
 // Writes a loss line's record into the front of the buffer: refused with 4 where it breaks a rule, and then with 3 where there is no room.
-pub fn write_line(into: &mut [u8], line: LossLine) -> RecordAnswer
+pub fn write_line(into: &mut [u8], line: LossLine) -> Result<usize, RecordRefusal>
     ensures { (wrote result into.new ≡ write_line line into.old)
         × (written.record_told result ≡ line_written_numbers line into.old) }
 {

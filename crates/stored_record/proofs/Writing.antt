@@ -7,13 +7,14 @@ use mathlib.Core.Logic.{◌⊎◌, inl, inr, ⊎_elim}
 use lib.Dec.{ltb, eqb}
 use lib.ListN.{length}
 use borrow.Author.Tests.{ltb-true, ltb-false, lt-ltb, le-ltb, eqb-false, not-true}
+use Rattle.std.specs.Prelude.{Result, Ok, Err}
 use Rattle.base_laws.specs.Ended.{Wrote, wrote}
 use Rattle.base_laws.proofs.Ended.{answer-is, buffer-is}
 use Rattle.base_laws.specs.Tests.{choose}
 use Rattle.base_laws.specs.Lists.{laid}
 use Rattle.base_laws.proofs.Tests.{known, either_true, choose-map}
-use Rattle.stored_record.specs.declared.RecordAnswer.{RecordAnswer}
-use Rattle.stored_record.specs.declared.RecordAnswer.TheVariants.{BreaksRule, NoRoom, Octets}
+use Rattle.stored_record.specs.declared.RecordRefusal.{RecordRefusal}
+use Rattle.stored_record.specs.declared.RecordRefusal.TheVariants.{BreaksRule, NoRoom}
 use Rattle.stored_record.specs.Record.{record_of}
 use Rattle.stored_record.specs.Writing.{write_record, record_told, record_numbers, Writes}
 
@@ -46,49 +47,49 @@ fits good body h = (keeps good body h).1
 -- ── one law for each way ──
 
 module _ (good : Bool) (kind : ℕ) (body buffer : List ℕ) where
-  abbrev o : Wrote RecordAnswer
+  abbrev o : Wrote (Result ℕ RecordRefusal)
   o = write_record good kind body buffer
 
   pub agree : record_told o.answer ≡ record_numbers good body buffer
   unfolding write_record record_told record_numbers
-  agree = choose-map (λ (t : Wrote RecordAnswer). record_told t.answer) _ _
+  agree = choose-map (λ (t : Wrote (Result ℕ RecordRefusal)). record_told t.answer) _ _
 
   -- r and y are the outcome, and r is told by its numbers
-  abbrev pub Outcome : RecordAnswer → List ℕ → Type 0
+  abbrev pub Outcome : Result ℕ RecordRefusal → List ℕ → Type 0
   Outcome r y = (wrote r y ≡ o) × (record_told r ≡ record_numbers good body buffer)
 
-  told_so : {r : RecordAnswer} {y : List ℕ} → wrote r y ≡ o → Outcome r y
-  told_so e = (e, ap (λ (t : Wrote RecordAnswer). record_told t.answer) e ∙ agree)
+  told_so : {r : Result ℕ RecordRefusal} {y : List ℕ} → wrote r y ≡ o → Outcome r y
+  told_so e = (e, ap (λ (t : Wrote (Result ℕ RecordRefusal)). record_told t.answer) e ∙ agree)
 
-  ended_4 : breaks good body ≡ true → wrote BreaksRule buffer ≡ o
+  ended_4 : breaks good body ≡ true → wrote (Err BreaksRule) buffer ≡ o
   unfolding write_record choose
   ended_4 h = rw h
 
-  pub ends_4 : breaks good body ≡ true → Outcome BreaksRule buffer
+  pub ends_4 : breaks good body ≡ true → Outcome (Err BreaksRule) buffer
   ends_4 h = told_so (ended_4 h)
 
   module _ (k : breaks good body ≡ false) where
-    ended_3 : length buffer < 4 + length body → wrote NoRoom buffer ≡ o
+    ended_3 : length buffer < 4 + length body → wrote (Err NoRoom) buffer ≡ o
     unfolding write_record choose
     ended_3 h = rw (k, lt-ltb (length buffer) (4 + length body) h)
 
     ended-written : {after : List ℕ} → 4 + length body ≤ length buffer → after ≡ laid 0 (record_of kind body) buffer
-        → wrote (Octets (4 + length body)) after ≡ o
+        → wrote (Ok (4 + length body)) after ≡ o
     unfolding write_record choose
     ended-written h e = rw (k, le-ltb (length buffer) (4 + length body) h, e)
 
-    pub ends_3 : length buffer < 4 + length body → Outcome NoRoom buffer
+    pub ends_3 : length buffer < 4 + length body → Outcome (Err NoRoom) buffer
     ends_3 h = told_so (ended_3 h)
 
     pub ends-written : {after : List ℕ} → 4 + length body ≤ length buffer → after ≡ laid 0 (record_of kind body) buffer
-        → Outcome (Octets (4 + length body)) after
+        → Outcome (Ok (4 + length body)) after
     ends-written h e = told_so (ended-written h e)
 
 -- ── the statement ──
 
 -- answers told by different numbers differ
-apart : {r r' : RecordAnswer} → r ≡ r' → eqb (record_told r).refusal (record_told r').refusal ≡ false → ⊥
-apart {r} {r'} e h = eqb-false (record_told r).refusal (record_told r').refusal h (ap (λ (t : RecordAnswer). (record_told t).refusal) e)
+apart : {r r' : Result ℕ RecordRefusal} → r ≡ r' → eqb (record_told r).refusal (record_told r').refusal ≡ false → ⊥
+apart {r} {r'} e h = eqb-false (record_told r).refusal (record_told r').refusal h (ap (λ (t : Result ℕ RecordRefusal). (record_told t).refusal) e)
 
 module _ (good : Bool) (kind : ℕ) (body buffer : List ℕ) where
   -- how it may end, with what is known then
@@ -104,22 +105,22 @@ module _ (good : Bool) (kind : ℕ) (body buffer : List ℕ) where
       (λ k. ⊎_elim (λ h. way_3 k (ltb-true _ _ h)) (λ h. way_0 k (ltb-false _ _ h)) (known (ltb (length buffer) (4 + length body))))
       (known (breaks good body))
 
-  at_4 : breaks good body ≡ true → (write_record good kind body buffer).answer ≡ BreaksRule
+  at_4 : breaks good body ≡ true → (write_record good kind body buffer).answer ≡ Err BreaksRule
   at_4 h = answer-is (sym (ended_4 good kind body buffer h))
 
-  at_3 : breaks good body ≡ false → length buffer < 4 + length body → (write_record good kind body buffer).answer ≡ NoRoom
+  at_3 : breaks good body ≡ false → length buffer < 4 + length body → (write_record good kind body buffer).answer ≡ Err NoRoom
   at_3 k h = answer-is (sym (ended_3 good kind body buffer k h))
 
-  at_0 : breaks good body ≡ false → 4 + length body ≤ length buffer → (write_record good kind body buffer).answer ≡ Octets (4 + length body)
+  at_0 : breaks good body ≡ false → 4 + length body ≤ length buffer → (write_record good kind body buffer).answer ≡ Ok (4 + length body)
   at_0 k h = answer-is (sym (ended-written good kind body buffer k h refl))
 
-  only_4 : Way → (write_record good kind body buffer).answer ≡ BreaksRule → (good ≡ false) ⊎ (65533 < length body)
+  only_4 : Way → (write_record good kind body buffer).answer ≡ Err BreaksRule → (good ≡ false) ⊎ (65533 < length body)
   unfolding record_told
   only_4 (way_4 h) e = broken good body h
   only_4 (way_3 k h) e = absurd (apart (sym (at_3 k h) ∙ e) refl)
   only_4 (way_0 k h) e = absurd (apart (sym (at_0 k h) ∙ e) refl)
 
-  only_3 : Way → (write_record good kind body buffer).answer ≡ NoRoom → (good ≡ true) × (length body ≤ 65533)
+  only_3 : Way → (write_record good kind body buffer).answer ≡ Err NoRoom → (good ≡ true) × (length body ≤ 65533)
       × (length buffer < 4 + length body)
   unfolding record_told
   only_3 (way_4 h) e = absurd (apart (sym (at_4 h) ∙ e) refl)
@@ -131,13 +132,13 @@ module _ (good : Bool) (kind : ℕ) (body buffer : List ℕ) where
   unfolding record_told
   untouched (way_4 h) n = buffer-is (sym (ended_4 good kind body buffer h))
   untouched (way_3 k h) n = buffer-is (sym (ended_3 good kind body buffer k h))
-  untouched (way_0 k h) n = absurd (n (ap (λ (r : RecordAnswer). (record_told r).refusal) (at_0 k h)))
+  untouched (way_0 k h) n = absurd (n (ap (λ (r : Result ℕ RecordRefusal). (record_told r).refusal) (at_0 k h)))
 
-zeros : (answer : RecordAnswer) → ((record_told answer).refusal ≡ 0 → ⊥) → (record_told answer).length ≡ 0
+zeros : (answer : Result ℕ RecordRefusal) → ((record_told answer).refusal ≡ 0 → ⊥) → (record_told answer).length ≡ 0
 unfolding record_told
-zeros BreaksRule n = refl
-zeros NoRoom n = refl
-zeros (Octets k) n = absurd (n refl)
+zeros (Err BreaksRule) n = refl
+zeros (Err NoRoom) n = refl
+zeros (Ok k) n = absurd (n refl)
 
 pub writing : Writes
 writing = record {

@@ -15,18 +15,16 @@ ghost use Rattle.stored_record.specs.Record.{record_of, is_record};
 use base_numbers::{read_little, write_little};
 use base_octets::copy_octets;
 
-// What writing a record is answered.
+// Why a record is not written. One that is written is in the buffer's first octets, and the answer says how many.
 #[derive(Clone, Copy)]
-pub enum RecordAnswer {
+pub enum RecordRefusal {
     // Refusal 4: what is to be written breaks a rule on its values.
     BreaksRule,
     // Refusal 3: the buffer is shorter than the record.
     NoRoom,
-    // The record is in the buffer's first octets, so many.
-    Octets(usize),
 }
 
-// An answer in the paper's numbers: the refusal, or 0, and the record's length.
+// An answer in the paper's numbers: the refusal, or 0, and the record's length. Numbers and no enum: C is given them.
 #[repr(C)]
 #[derive(Clone, Copy)]
 pub struct RecordTold {
@@ -35,19 +33,21 @@ pub struct RecordTold {
 }
 
 // An answer in the paper's numbers: the refusal, or the record's length.
-pub fn tell(answer: RecordAnswer) -> RecordTold
+#[tactic(auto, unfolding(crate::specs::Writing::record_told))]
+pub fn tell(answer: Result<usize, RecordRefusal>) -> RecordTold
     ensures { result ≡ record_told answer }
 {
+    // by this name and no `From`: lemma `tell_one`, the edits and the pages cite it
     match answer {
-        RecordAnswer::BreaksRule => RecordTold {
+        Err(RecordRefusal::BreaksRule) => RecordTold {
             refusal: 4,
             length: 0,
         },
-        RecordAnswer::NoRoom => RecordTold {
+        Err(RecordRefusal::NoRoom) => RecordTold {
             refusal: 3,
             length: 0,
         },
-        RecordAnswer::Octets(n) => RecordTold {
+        Ok(n) => RecordTold {
             refusal: 0,
             length: n,
         },
@@ -85,16 +85,21 @@ fn put_record(into: &mut [u8], kind: u16, body: &[u8])
 
 // Writes a record of a kind into the front of the buffer. `good` says whether the values keep their rules. Values that break one are
 // refused before the buffer's length is looked at, and so is a body that no record can hold.
-pub fn write_record(into: &mut [u8], kind: u16, body: &[u8], good: bool) -> RecordAnswer
+pub fn write_record(
+    into: &mut [u8],
+    kind: u16,
+    body: &[u8],
+    good: bool,
+) -> Result<usize, RecordRefusal>
     ensures { (wrote result into.new ≡ write_record good kind body.now into.old)
         × (record_told result ≡ record_numbers good body.now into.old) }
 {
     if !good | (LONGEST < body.len()) {
-        return RecordAnswer::BreaksRule;
+        return Err(RecordRefusal::BreaksRule);
     }
     if into.len() < HEAD + body.len() {
-        return RecordAnswer::NoRoom;
+        return Err(RecordRefusal::NoRoom);
     }
     put_record(into, kind, body);
-    RecordAnswer::Octets(HEAD + body.len())
+    Ok(HEAD + body.len())
 }

@@ -15,29 +15,28 @@ use Rattle.loss_session.specs.declared.LossSession.{LossSession}
 use Rattle.loss_session.specs.Session.{WellFormed, well_formed}
 use Rattle.loss_reading.proofs.Refusals.{sessions}
 use Rattle.stored_replies.specs.Replies.{replies, worked}
-use Rattle.stored_replies.specs.Recount.{refused_with, worked_answer, recount_into}
+use Rattle.stored_replies.specs.Recount.{RecountTold, refused_with, worked_answer, recount_into}
 use Rattle.stored_replies.proofs.Turns.{ends-not_well, ends-no-room, ends-worked}
-use Rattle.stored_replies.specs.declared.Recounted.{Recounted}
 
 -- an answer's words, from how the call ends
-pub refusal_is : {x y : Wrote Recounted} → x ≡ y → x.answer.refusal ≡ y.answer.refusal
-refusal_is e = ap (λ (t : Wrote Recounted). t.answer.refusal) e
+pub refusal_is : {x y : Wrote RecountTold} → x ≡ y → x.answer.refusal ≡ y.answer.refusal
+refusal_is e = ap (λ (t : Wrote RecountTold). t.answer.refusal) e
 
-pub halted-is : {x y : Wrote Recounted} → x ≡ y → x.answer.halted ≡ y.answer.halted
-halted-is e = ap (λ (t : Wrote Recounted). t.answer.halted) e
+pub halted-is : {x y : Wrote RecountTold} → x ≡ y → x.answer.halted ≡ y.answer.halted
+halted-is e = ap (λ (t : Wrote RecountTold). t.answer.halted) e
 
-pub taken_is : {x y : Wrote Recounted} → x ≡ y → x.answer.taken ≡ y.answer.taken
-taken_is e = ap (λ (t : Wrote Recounted). t.answer.taken) e
+pub taken_is : {x y : Wrote RecountTold} → x ≡ y → x.answer.taken ≡ y.answer.taken
+taken_is e = ap (λ (t : Wrote RecountTold). t.answer.taken) e
 
-pub session-is : {x y : Wrote Recounted} → x ≡ y → x.answer.session ≡ y.answer.session
-session-is e = ap (λ (t : Wrote Recounted). t.answer.session) e
+pub session-is : {x y : Wrote RecountTold} → x ≡ y → x.answer.session ≡ y.answer.session
+session-is e = ap (λ (t : Wrote RecountTold). t.answer.session) e
 
 -- worked through, into the buffer
-abbrev pub on_into : LossSession → List ℕ → List ℕ → Wrote Recounted
+abbrev pub on_into : LossSession → List ℕ → List ℕ → Wrote RecountTold
 on_into s octets buffer = wrote (worked_answer (worked s (replies octets))) (laid 0 (worked s (replies octets)).records buffer)
 
 module _ (s : LossSession) (octets buffer : List ℕ) where
-  abbrev o : Wrote Recounted
+  abbrev o : Wrote RecountTold
   o = recount_into s octets buffer
 
   abbrev count : ℕ

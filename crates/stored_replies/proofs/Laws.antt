@@ -5,26 +5,24 @@ use mathlib.Core.List.{List, [], ◌∷◌, ◌++◌, append_assoc}
 use mathlib.Core.Bool.{true, false}
 use mathlib.Core.Logic.{⊎_elim}
 use native.Mathlib.Omega.{arith}
-use native.Mathlib.Nat.{add-zero, zero-add}
+use native.Mathlib.Nat.{zero-add}
 use lib.IntN.{ℤ}
 use lib.ListN.{length, drop, length-drop}
 use lib.Seq.{drop-drop, drop-append-le}
 use borrow.Author.Tests.{eqb-false, eq-eqb, ne_eqb}
+use Rattle.std.specs.Prelude.{Result}
 use Rattle.base_laws.specs.Ended.{wrote}
 use Rattle.base_laws.proofs.Ended.{buffer-is}
 use Rattle.base_laws.specs.Tests.{choose}
-use Rattle.base_laws.specs.Lists.{part}
 use Rattle.base_laws.proofs.Tests.{known}
-use Rattle.base_laws.proofs.Parts.{part-drop}
 use Rattle.base_laws.proofs.Apart.{part-front, laid-whole}
-use Rattle.base_numbers.specs.Numbers.{little_endian, number}
 use Rattle.loss_session.specs.declared.Readings.{Readings}
 use Rattle.loss_session.specs.declared.LossSession.{LossSession}
 use Rattle.loss_session.specs.Session.{near, far, well_formed}
 use Rattle.loss_reading.specs.Reading.{after_reading}
 use Rattle.loss_reading.specs.Told.{loss_numbers}
 use Rattle.loss_reading.proofs.Refusals.{sessions}
-use Rattle.stored_record.specs.declared.RecordAnswer.{RecordAnswer}
+use Rattle.stored_record.specs.declared.RecordRefusal.{RecordRefusal}
 use Rattle.stored_line.specs.declared.LossLine.{LossLine}
 use Rattle.stored_line.specs.Line.{KeepsRules, line_record}
 use Rattle.stored_line.specs.LineCalls.{write_line}
@@ -33,14 +31,6 @@ use Rattle.stored_line.proofs.LineRecords.{loss-records}
 use Rattle.stored_replies.specs.Replies.{readings_in, replies_in, line_of, Worked, stopped, behind, worked}
 
 -- ── a reply in octets ──
-
--- its counts, read where it stands
-pub counts-here : (octets : List ℕ) (at : ℕ) {a b c d : ℕ} → a ≡ number little_endian (part at 4 octets)
-    → b ≡ number little_endian (part (at + 4) 4 octets)
-    → c ≡ number little_endian (part (at + 8) 4 octets) → d ≡ number little_endian (part (at + 12) 4 octets)
-    → record { txf = a; rxf = b; txb = c; ours = d } ≡ readings_in (drop at octets)
-counts-here octets at e f g h =
-    rw (e, f, g, h, part-drop at 0 4 octets, part-drop at 4 4 octets, part-drop at 8 4 octets, part-drop at 12 4 octets, add-zero at)
 
 -- the next of some replies
 pub replies-next : (n : ℕ) (octets : List ℕ) → 0 < n → replies_in n octets ≡ readings_in octets ∷ replies_in (n - 1) (drop 16 octets)
@@ -80,7 +70,7 @@ replies-both (suc m) n octets =
 -- ── a record ──
 
 -- a line that keeps the rules, written over 24 octets, is its record
-pub record_is : (line : LossLine) (l : List ℕ) {r : RecordAnswer} {after : List ℕ} {n f : ℤ} → length l ≡ 24 → KeepsRules line
+pub record_is : (line : LossLine) (l : List ℕ) {r : Result ℕ RecordRefusal} {after : List ℕ} {n f : ℤ} → length l ≡ 24 → KeepsRules line
     → n ≡ line.near → f ≡ line.far
     → wrote r after ≡ write_line (record { near = n; far = f; intervals = line.intervals }) l → after ≡ line_record line
 record_is line l {r} {after} {n} {f} h k en ef e =

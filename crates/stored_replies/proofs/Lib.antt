@@ -4,4 +4,5 @@ pub mod Chunks
 pub mod Halts
 pub mod Ends
 pub mod Recounts
+pub mod Told
 pub mod One

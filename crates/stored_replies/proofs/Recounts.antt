@@ -12,9 +12,8 @@ use Rattle.base_laws.specs.Lists.{laid}
 use Rattle.loss_session.specs.declared.LossSession.{LossSession}
 use Rattle.loss_session.specs.Session.{WellFormed, well_formed, most_intervals}
 use Rattle.loss_reading.proofs.Refusals.{sessions}
-use Rattle.stored_replies.specs.declared.Recounted.{Recounted}
 use Rattle.stored_replies.specs.Replies.{replies, Worked, worked}
-use Rattle.stored_replies.specs.Recount.{worked_answer, recount_into, still_takes}
+use Rattle.stored_replies.specs.Recount.{RecountTold, worked_answer, recount_into, still_takes}
 use Rattle.stored_replies.specs.Recounts.{answer_to, but_halted, Recounts}
 use Rattle.stored_replies.proofs.Turns.{ends-worked}
 use Rattle.stored_replies.proofs.Chunks.{sized, replies-long, chunks}
@@ -24,7 +23,7 @@ use Rattle.stored_replies.proofs.Ends.{refusal_is, halted-is, taken_is, session-
 use Rattle.stored_replies.proofs.Ends.{two_to, two_from, three_to, three_from, refused, not_both}
 
 module _ (s : LossSession) (octets buffer : List ℕ) where
-  abbrev a : Recounted
+  abbrev a : RecountTold
   a = answer_to s octets buffer
 
   abbrev count : ℕ

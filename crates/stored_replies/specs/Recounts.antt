@@ -3,16 +3,15 @@ use Rattle.std.specs.Prelude.{ℕ, ◌*◌, ◌/◌, ◌<◌, ◌≤◌, ◌≡�
 use Rattle.base_laws.specs.Ended.{Wrote, wrote}
 use Rattle.loss_session.specs.declared.LossSession.{LossSession}
 use Rattle.loss_session.specs.Session.{WellFormed, most_intervals}
-use Rattle.stored_replies.specs.declared.Recounted.{Recounted}
 use Rattle.stored_replies.specs.Replies.{replies, worked}
-use Rattle.stored_replies.specs.Recount.{answered, refused_with, recount_into, and_then, still_takes}
+use Rattle.stored_replies.specs.Recount.{RecountTold, answered, refused_with, recount_into, and_then, still_takes}
 
 -- what a call is answered
-abbrev pub answer_to : LossSession → List ℕ → List ℕ → Recounted
+abbrev pub answer_to : LossSession → List ℕ → List ℕ → RecountTold
 answer_to s octets buffer = (recount_into s octets buffer).answer
 
 -- the same, but halted with 5
-abbrev pub but_halted : Wrote Recounted → Wrote Recounted
+abbrev pub but_halted : Wrote RecountTold → Wrote RecountTold
 but_halted o = wrote (answered o.answer.refusal 5 o.answer.taken o.answer.session) o.buffer
 
 -- a record of 24 octets for each reply taken; chunks of whole replies, one after another, give what the whole gives; refused with 2

@@ -1,21 +1,21 @@
 -- The stored record of kind 1, settings, read and written. The paper, "Stored records" and "Refusals": reading gives 7, writing 4 and then
 -- 3; any other value beside a refusal is 0; what is written reads back, and what is read writes back as the same octets. Definitions and
 -- the statement only.
-use Rattle.std.specs.Prelude.{ℕ, ◌+◌, ◌≤◌, ◌<◌, ◌≡◌, List, [], ◌∷◌, ◌++◌, not, ◌↔◌, ◌⊎◌, length, replicate}
+use Rattle.std.specs.Prelude.{ℕ, ◌+◌, ◌≤◌, ◌<◌, ◌≡◌, List, [], ◌∷◌, ◌++◌, not, ◌↔◌, ◌⊎◌, length, replicate, Result, Ok, Err}
 use Rattle.base_laws.specs.Ended.{Wrote, wrote}
 use Rattle.base_laws.specs.Tests.{choose}
 use Rattle.base_laws.specs.Lists.{part, laid}
 use Rattle.base_octets.specs.Octets.{Octets}
 use Rattle.state_settings.specs.Settings.{Settings, slots, settings_of, Shaped, name_octets, set_words}
 use Rattle.state_settings.specs.Valid.{Valid, valid}
-use Rattle.stored_record.specs.declared.RecordAnswer.TheVariants as stored
+use Rattle.stored_record.specs.declared.RecordRefusal.TheVariants as stored
 use Rattle.stored_record.specs.declared.RecordTold.{RecordTold}
 use Rattle.stored_record.specs.Record.{record_of, is_record, IsRecord, NoRecord}
 use Rattle.stored_record.specs.Writing.{write_record, record_told, record_numbers}
 use Rattle.stored_settings_body.specs.declared.SettingsRead.{SettingsRead}
 use Rattle.stored_settings_body.specs.Body.{settings_body, body_length, settings_in, FieldsHold}
 use Rattle.stored_settings_body.specs.Lying.{given}
-use Rattle.stored_record.specs.declared.RecordAnswer.{RecordAnswer}
+use Rattle.stored_record.specs.declared.RecordRefusal.{RecordRefusal}
 
 -- the octets of a body with as many slots as a box has, and of the whole record
 abbrev pub body_size : ℕ
@@ -54,7 +54,7 @@ read_settings octets =
 -- ── writing ──
 
 -- the record of the settings, if they keep the rules
-unfoldable pub write_settings : Settings → List ℕ → Wrote RecordAnswer
+unfoldable pub write_settings : Settings → List ℕ → Wrote (Result ℕ RecordRefusal)
 write_settings t buffer = write_record (valid t) 1 (settings_body t) buffer
 
 -- and its numbers
@@ -89,10 +89,10 @@ pub record SettingsRecords : Type 0 where
   -- what is behind the record is not looked at
   pub front_alone : (octets rest : List ℕ) → record_size ≤ length octets → read_settings (octets ++ rest) ≡ read_settings octets
   -- 4 exactly where a rule is broken, else 3 exactly where the buffer is shorter than the record; neither changes it
-  pub refuses_4 : (t : Settings) (buffer : List ℕ) → Shaped slots t → ((write_settings t buffer).answer ≡ stored.BreaksRule) ↔ (Valid t → ⊥)
+  pub refuses_4 : (t : Settings) (buffer : List ℕ) → Shaped slots t → ((write_settings t buffer).answer ≡ Err stored.BreaksRule) ↔ (Valid t → ⊥)
   pub refuses_3 : (t : Settings) (buffer : List ℕ) → Shaped slots t
-      → ((write_settings t buffer).answer ≡ stored.NoRoom) ↔ (Valid t × (length buffer < record_size))
+      → ((write_settings t buffer).answer ≡ Err stored.NoRoom) ↔ (Valid t × (length buffer < record_size))
   pub refused : (t : Settings) (buffer : List ℕ) → ((record_told (write_settings t buffer).answer).refusal ≡ 0 → ⊥) → (write_settings t buffer).buffer ≡ buffer
   -- any other settings are written, and the octets behind their record stay
   pub writes : (t : Settings) (buffer : List ℕ) → Valid t → Shaped slots t → record_size ≤ length buffer
-      → write_settings t buffer ≡ wrote (stored.Octets record_size) (laid 0 (settings_record t) buffer)
+      → write_settings t buffer ≡ wrote (Ok record_size) (laid 0 (settings_record t) buffer)

@@ -1,6 +1,5 @@
 // The stored record of kind 1, settings: read into the three arrays of settings, and written from them.
-// The answer of a read is a struct with the refusal's number in it, and no enum: an enum that holds an array is not covered by the
-// toolchain.
+// The answer of a read is the struct that C is given, with the refusal's number in it, and no `Result`.
 #![tactic(auto)]
 
 ghost use Rattle.std.specs.Prelude.{◌≡◌};
@@ -11,7 +10,7 @@ ghost use Rattle.stored_settings.specs.SettingsRecord.{refused_read, read_settin
 
 use base_octets::copy_octets;
 use state_settings::{NAMES, Names, PEERS, SET, Set, Slots, is_valid};
-use stored_record::{HEAD, RecordAnswer, is_record, write_record};
+use stored_record::{HEAD, RecordRefusal, is_record, write_record};
 use stored_settings_body::{BODY, SettingsRead, settings_of};
 use stored_settings_body_write::body_of;
 
@@ -51,7 +50,12 @@ pub fn read_settings(from: &[u8]) -> SettingsRead
 }
 
 // Writes the record of settings into the front of the buffer: refusal 4 where they break a rule, then 3 where there is no room.
-pub fn write_settings(into: &mut [u8], set: &Set, names: &Names, ids: &Slots) -> RecordAnswer
+pub fn write_settings(
+    into: &mut [u8],
+    set: &Set,
+    names: &Names,
+    ids: &Slots,
+) -> Result<usize, RecordRefusal>
     ensures into_after { (wrote result into.new ≡ write_settings (lent_settings set names ids) into.old)
         × (record_told result ≡ settings_written_numbers (lent_settings set names ids) into.old) }
     ensures shaped { Shaped slots (lent_settings set names ids) }

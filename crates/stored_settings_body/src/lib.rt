@@ -17,7 +17,8 @@ pub const IDS: usize = 65;
 // The octets of the body.
 pub const BODY: usize = IDS + 2 * PEERS;
 
-// What reading a record is answered: the refusal, or 0, and the settings in their arrays, all 0 beside a refusal.
+// What reading a record is answered: the refusal, or 0, and the settings in their arrays, all 0 beside a refusal. A number and no
+// `Result`: C is given this struct.
 #[repr(C)]
 #[derive(Clone, Copy)]
 pub struct SettingsRead {
@@ -32,11 +33,8 @@ fn read_ids(ids: &mut [u32], from: &[u8])
     requires { 2 * length ids.old ≤ length from.now }
     ensures { ids.new ≡ ids_in (length ids.old) from.now }
 {
-    let n = ids.len();
-    let mut i: usize = 0;
-    while i < n {
-        ids[i] = read_little(from, 2 * i, 2);
-        i += 1;
+    for (i, id) in ids.iter_mut().enumerate() {
+        *id = read_little(from, 2 * i, 2);
     }
 }
 

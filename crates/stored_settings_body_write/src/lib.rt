@@ -17,10 +17,8 @@ fn write_ids(into: &mut [u8], at: usize, ids: &[u32])
     requires { at + 2 * length ids.now ≤ length into.old }
     ensures { into.new ≡ laid at (ids_octets ids.now) into.old }
 {
-    let mut i: usize = 0;
-    while i < ids.len() {
-        write_little(into, at + 2 * i, 2, ids[i]);
-        i += 1;
+    for (i, &id) in ids.iter().enumerate() {
+        write_little(into, at + 2 * i, 2, id);
     }
 }
 

@@ -5,10 +5,10 @@ use mathlib.Core.List.{List, [], ◌∷◌, ◌++◌}
 use native.Mathlib.Omega.{arith}
 use lib.ListN.{length, drop, length-append, length-drop, take-append-drop}
 use lib.Seq.{get_or-drop, drop_at}
+use Rattle.std.specs.Prelude.{Some, None}
 use Rattle.base_laws.specs.Lists.{part}
 use Rattle.base_octets.specs.Octets.{Octets}
 use Rattle.stored_line.specs.declared.LossLine.{LossLine}
-use Rattle.stored_line.specs.declared.LineAnswer.TheVariants.{Refused, Line}
 use Rattle.stored_line.specs.Line.{line_record}
 use Rattle.stored_line.specs.LineCalls.{read_line}
 use Rattle.stored_line.proofs.Laws.{line-long}
@@ -19,16 +19,16 @@ use Rattle.stored_sheet.proofs.Text.{text-none, text-good, text-bad}
 
 -- ── the text of an answer ──
 
-line-text : (octets : List ℕ) (line : LossLine) → read_line octets ≡ Line line → answer_text (read_line octets) ≡ line_text line
+line-text : (octets : List ℕ) (line : LossLine) → read_line octets ≡ Some line → answer_text (read_line octets) ≡ line_text line
 unfolding answer_text
 line-text octets line e = ap answer_text e
 
-refused-text : (octets : List ℕ) → read_line octets ≡ Refused → answer_text (read_line octets) ≡ refused_text
+refused-text : (octets : List ℕ) → read_line octets ≡ None → answer_text (read_line octets) ≡ refused_text
 unfolding answer_text
 refused-text octets e = ap answer_text e
 
 -- octets whose first record is bad
-pub all-refused : (octets : List ℕ) → 0 < length octets → read_line octets ≡ Refused → text_of octets ≡ refused_text
+pub all-refused : (octets : List ℕ) → 0 < length octets → read_line octets ≡ None → text_of octets ≡ refused_text
 all-refused octets some e = text-bad octets some (is-refused octets e) ∙ refused-text octets e
 
 -- ── what is computed is what is meant ──

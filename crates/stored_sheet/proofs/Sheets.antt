@@ -8,12 +8,12 @@ use native.Mathlib.Omega.{arith}
 use lib.IntN.{pos, negsuc}
 use lib.ListN.{length, drop, length-append, length-drop}
 use lib.Seq.{drop-append-le}
+use Rattle.std.specs.Prelude.{Option}
 use Rattle.base_laws.proofs.Tests.{known}
 use Rattle.base_numbers.specs.Numbers.{in_octets, octets_lowest_first}
 use Rattle.base_number_text.specs.Decimal.{decimal, digits_of, leading}
 use Rattle.stored_record.specs.Record.{head_of, record_of, wrong_kind}
 use Rattle.stored_line.specs.declared.LossLine.{LossLine}
-use Rattle.stored_line.specs.declared.LineAnswer.{LineAnswer}
 use Rattle.stored_line.specs.Line.{KeepsRules, line_body, line_record}
 use Rattle.stored_line.specs.LineCalls.{read_line}
 use Rattle.stored_line.proofs.LineRecords.{loss-records}
@@ -48,7 +48,7 @@ two (suc k) first rest h = by (two k (drop 24 first) rest (omega (arith, h, leng
         → text_of (first ++ rest) ≡ text_of first ++ cond (all_good first) (text_of rest) []
     by more (inl b) =
         text-good (first ++ rest) some_more (ap is_line alone ∙ b)
-        ∙ ap₂ (λ (r : LineAnswer) (t : List ℕ). answer_text r ++ text_of t) alone behind
+        ∙ ap₂ (λ (r : Option LossLine) (t : List ℕ). answer_text r ++ text_of t) alone behind
         ∙ ap (λ (t : List ℕ). answer_text (read_line first) ++ t) more
         ∙ sym (append_assoc (answer_text (read_line first)) (text_of (drop 24 first)) (cond (all_good (drop 24 first)) (text_of rest) []))
         ∙ ap₂ (λ (t : List ℕ) (g : Bool). t ++ cond g (text_of rest) []) (sym (text-good first some b)) (sym (good-good first some b))

@@ -1,12 +1,10 @@
 -- The sheet. The paper, "Stored records and the sheet program": the header, then for each record intervals, near and far with one space
 -- between; at a bad record the refusal, and no more. Definitions and the statement only.
-use Rattle.std.specs.Prelude.{ℕ, zero, suc, ◌*◌, ◌<◌, ◌≡◌, List, [], ◌∷◌, ◌++◌, Bool, true, false, ◌&&◌, cond, ◌⊎◌, pos, length, drop}
+use Rattle.std.specs.Prelude.{ℕ, zero, suc, ◌*◌, ◌<◌, ◌≡◌, List, [], ◌∷◌, ◌++◌, Bool, true, false, ◌&&◌, cond, ◌⊎◌, pos, length, drop, Option, Some, None}
 use Rattle.base_octets.specs.Octets.{Octets}
 use Rattle.base_number_text.specs.Decimal.{decimal}
 use Rattle.stored_record.specs.Record.{kind_field, NoRecord}
 use Rattle.stored_line.specs.declared.LossLine.{LossLine}
-use Rattle.stored_line.specs.declared.LineAnswer.{LineAnswer}
-use Rattle.stored_line.specs.declared.LineAnswer.TheVariants.{Refused, Line}
 use Rattle.stored_line.specs.Line.{KeepsRules, line_record, line_in}
 use Rattle.stored_line.specs.LineCalls.{read_line}
 
@@ -40,13 +38,13 @@ pub data Prints : List ℕ → List ℕ → Type 0 where
 -- ── the same, computed ──
 
 -- the text of one record, and whether it is a line
-unfoldable pub answer_text : LineAnswer → List ℕ
-answer_text Refused = refused_text
-answer_text (Line line) = line_text line
+unfoldable pub answer_text : Option LossLine → List ℕ
+answer_text None = refused_text
+answer_text (Some line) = line_text line
 
-unfoldable pub is_line : LineAnswer → Bool
-is_line Refused = false
-is_line (Line line) = true
+unfoldable pub is_line : Option LossLine → Bool
+is_line None = false
+is_line (Some line) = true
 
 -- the text of the octets, and whether all of them were good: at most n records
 unfoldable pub text_within : ℕ → List ℕ → List ℕ

@@ -1,6 +1,6 @@
 -- A line made from its end to its front, and the text of one record. Assumes nothing.
 use Prim.Native.Nat.{ℕ, suc, ◌+◌, ◌-◌, ◌≤◌, ◌<◌}
-use mathlib.Core.Path.{◌≡◌, refl, ap, ap₂, ◌∙◌}
+use mathlib.Core.Path.{◌≡◌, refl, sym, ap, ap₂, ◌∙◌}
 use mathlib.Core.List.{List, [], ◌∷◌, ◌++◌, append_assoc}
 use mathlib.Core.Bool.{Bool, true, false}
 use native.Mathlib.Omega.{arith}
@@ -9,15 +9,16 @@ use lib.ListN.{length, set, take, drop, length-append, length-set, length-drop, 
 use lib.Seq.{take_all, drop-cons, drop-set-lt, get_or-set_same}
 use mir.Syntax.{w64}
 use mir.Val.{SFits}
+use Rattle.std.specs.Prelude.{Option, Some, None, Result, Ok, Err}
 use Rattle.base_laws.specs.Lists.{laid}
 use Rattle.base_number_text.specs.Decimal.{decimal}
 use Rattle.base_number_text.specs.Before.{put_before, beginning}
 use Rattle.base_number_text.proofs.Decimal.{decimals}
 use Rattle.base_number_text.proofs.Before.{puts_before}
 use Rattle.stored_line.specs.declared.LossLine.{LossLine}
-use Rattle.stored_line.specs.declared.LineAnswer.TheVariants.{Refused, Line}
 use Rattle.stored_line.specs.LineCalls.{read_line}
 use Rattle.stored_sheet.specs.Sheet.{refused_text, line_text, answer_text, is_line, longest_line}
+use Rattle.stored_sheet_lines.specs.Chunk.{reached}
 
 -- ── a line made from its end ──
 
@@ -93,19 +94,42 @@ line_copied at line l {t} {after} {front} m e =
 
 -- ── the text of one record ──
 
--- what is written of it: its text, as far as `place`, and whether it was good
-abbrev pub Next : ℕ → List ℕ → List ℕ → List ℕ → ℕ → Bool → Type 0
-Next at from l after place b =
-    (after ≡ laid at (answer_text (read_line from)) l) × (place ≡ at + length (answer_text (read_line from))) × (b ≡ is_line (read_line from))
-    × (place ≤ at + longest_line)
+-- what is written of it, and the place behind that, as the answer says it
+abbrev pub Next : ℕ → List ℕ → List ℕ → List ℕ → Result ℕ ℕ → Type 0
+Next at from l after r = (after ≡ laid at (answer_text (read_line from)) l) × (r ≡ reached at (read_line from))
 
 module _ (at : ℕ) (from l : List ℕ) where
-  pub next-refused : {after : List ℕ} → read_line from ≡ Refused → after ≡ laid at refused_text l → Next at from l after (at + 10) false
-  unfolding answer_text is_line
-  next-refused e f = rw e (f, refl, refl, omega arith)
+  pub next-refused : {after : List ℕ} → read_line from ≡ None → after ≡ laid at refused_text l → Next at from l after (Err (at + 10))
+  unfolding answer_text reached
+  next-refused e f = rw e (f, refl)
 
-  pub next-line : (line : LossLine) {after : List ℕ} {place : ℕ} → read_line from ≡ Line line
+  pub next-line : (line : LossLine) {after : List ℕ} {place : ℕ} → read_line from ≡ Some line
       → (after ≡ laid at (line_text line) l) × (place ≡ at + length (line_text line)) × (place ≤ at + longest_line)
-      → Next at from l after place true
-  unfolding answer_text is_line
-  next-line line e w = rw e (w.0, w.1, refl, w.2)
+      → Next at from l after (Ok place)
+  unfolding answer_text reached
+  next-line line e w = rw e (w.0, ap (λ (n : ℕ). Ok n) w.1)
+
+-- the place that an answer names, and whether it is one behind a line
+place_in : Result ℕ ℕ → ℕ
+place_in (Ok n) = n
+place_in (Err n) = n
+
+is_ok : Result ℕ ℕ → Bool
+is_ok (Ok n) = true
+is_ok (Err n) = false
+
+places : (at : ℕ) (o : Option LossLine)
+    → (place_in (reached at o) ≡ at + length (answer_text o)) × (is_ok (reached at o) ≡ is_line o)
+unfolding answer_text is_line reached place_in is_ok
+places at None = (refl, refl)
+places at (Some line) = (refl, refl)
+
+module _ (at : ℕ) (o : Option LossLine) {place : ℕ} where
+  -- what an answer says of the record
+  pub reached-line : reached at o ≡ Ok place → (place ≡ at + length (answer_text o)) × (true ≡ is_line o)
+  unfolding place_in is_ok
+  reached-line e = (ap place_in (sym e) ∙ (places at o).0, ap is_ok (sym e) ∙ (places at o).1)
+
+  pub reached-refusal : reached at o ≡ Err place → (place ≡ at + length (answer_text o)) × (false ≡ is_line o)
+  unfolding place_in is_ok
+  reached-refusal e = (ap place_in (sym e) ∙ (places at o).0, ap is_ok (sym e) ∙ (places at o).1)

@@ -1,10 +1,9 @@
--- `base_hex::write_pairs` meets its contract. The invariant: the digits of the first i octets are laid. The measure is how many octets are
--- left.
-use Prim.Native.Nat.{ℕ, ◌+◌, ◌*◌, ◌-◌}
+-- `base_hex::write_pairs` meets its contract. The invariant: the digits of the first i octets are laid.
+use Prim.Native.Nat.{ℕ, ◌+◌, ◌*◌}
 use mathlib.Core.Path.{refl, ap, ◌∙◌}
 use mathlib.Core.List.{List}
 use native.Mathlib.Omega.{arith}
-use lib.ListN.{get_or, take}
+use lib.ListN.{get_or}
 use lib.Seq.{take_all}
 use borrow.Author.Rules.{rules}
 use Rattle.base_laws.specs.Lists.{laid}

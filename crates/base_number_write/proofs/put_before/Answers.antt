@@ -26,7 +26,7 @@ pub digits_before-requires : goal.digits_before-requires
 digits_before-requires c =
     let back : to_z w64 (of_z w64 c.args.value) ≡ c.args.value = search rules in
     let s = c in
-    rw (c.size_of.ensures, back) (size_small s.args.value c.ranges.value, omega arith, omega arith)
+    rw (c.unsigned_abs.ensures.value, back) (size_small s.args.value c.ranges.value, omega arith, omega arith)
 
 pub overflow_sub-result : goal.overflow_sub-result
 overflow_sub-result c =
@@ -34,7 +34,7 @@ overflow_sub-result c =
     let s = c in
     let a = s.args in
     sign_within a.end a.value a.into.now c.ranges.value (omega arith) (omega arith) back _ _
-    c.size_of.ensures c.sign_of.ensures c.digits_before.ensures
+    c.unsigned_abs.ensures.value c.sign_of.ensures c.digits_before.ensures
 
 pub returns : goal.returns
 returns c =
@@ -42,4 +42,4 @@ returns c =
     let s = c in
     let a = s.args in
     put_so a.end a.value a.into.now c.ranges.value (omega arith) (omega arith) back _ _
-    c.size_of.ensures c.sign_of.ensures c.digits_before.ensures
+    c.unsigned_abs.ensures.value c.sign_of.ensures c.digits_before.ensures

@@ -1,42 +1,41 @@
--- `base_numbers::write_big` meets its contract. The loop's invariant: the octets from `left` on are laid, and `rest` is the value without
--- them. The measure is `left`.
+-- `base_numbers::write_big` meets its contract. The invariant: the octets from i on are laid, and `rest` is the value without them.
 use native.Mathlib.Omega.{arith}
 use native.Mathlib.Nat.{div-one}
-use mathlib.Core.Path.{◌≡◌, refl, ap, sym, ◌∙◌}
+use mathlib.Core.Path.{◌≡◌, ap, sym, ◌∙◌}
 use mathlib.Core.List.{List}
-use Prim.Native.Nat.{ℕ, ◌+◌, ◌/◌, ◌%◌, ◌^◌, ◌-◌}
-use lib.Bits.{bit_and, and_mask}
-use lib.ListN.{length, set, length-set}
-use Rattle.base_laws.specs.Lists.{laid}
+use Prim.Native.Nat.{ℕ, ◌+◌, ◌/◌, ◌-◌}
+use lib.Bits.{bit_and}
+use lib.ListN.{set}
+use Rattle.base_laws.proofs.Overlaid.{laid_none}
 use Rattle.base_numbers.specs.Numbers.{big_endian}
-use Rattle.base_numbers.proofs.Turns.{masked_fits, laid-nothing, down_write, down-rest}
+use Rattle.base_numbers.proofs.Turns.{no-octets, down_write, down-rest}
 use Rattle.base_numbers.proofs.write_big.Goals as goal
 
-pub loop-left-init : goal.loop-left-init
-loop-left-init c = let a = c.args in
-    let e : a.n - a.n ≡ 0 = omega arith in
-    (omega arith, refl, rw e (laid-nothing big_endian (a.at + a.n) a.value a.into.now), rw e (sym (div-one a.value)))
+pub loop-i-init : goal.loop-i-init
+loop-i-init c = let a = c.args in
+    let e : a.at + a.n - (a.at + a.n) ≡ 0 = omega arith in
+    record {
+      low = omega arith;
+      high = omega arith;
+      laid = rw (e, sym (no-octets big_endian a.value), laid_none);
+      rest = rw e (sym (div-one a.value));
+    }
 
-pub overflow_cast-into : goal.overflow_cast-into
-overflow_cast-into c = masked_fits c.loop-left.rest _ tt
-
-pub loop-left-preserved : goal.loop-left-preserved
-loop-left-preserved c = let l = c.loop-left in
+pub loop-i-preserved : goal.loop-i-preserved
+loop-i-preserved c = let l = c.loop-i in
     let a = c.args in
-    let k = a.n - l.left in
-    let x : bit_and l.rest 255 ≡ a.value / 256 ^ k % 256 = and_mask l.rest 8 ∙ ap (λ (m : ℕ). m % 256) l.invariant.3 in (
-      omega arith,
-      length-set l.into (a.at + (l.left - 1)) _ ∙ l.invariant.1,
-      ap (λ (m : ℕ). set l.into (a.at + (l.left - 1)) m) x
-          ∙ ap (λ (s : List ℕ). set s (a.at + (l.left - 1)) (a.value / 256 ^ k % 256)) l.invariant.2
-          ∙ down_write a.at a.n l.left a.value a.into.now (omega arith) (omega arith) (omega arith),
-      ap (λ (m : ℕ). m / 256) l.invariant.3
-          ∙ down-rest a.at a.n l.left a.value a.into.now (omega arith) (omega arith) (omega arith),
-    )
+    let v = l.invariant in
+    record {
+      low = omega arith;
+      high = omega arith;
+      laid = ap (λ (s : List ℕ). set s (l.i - 1) (bit_and l.rest 255)) v.laid
+          ∙ down_write a.at a.n l.i a.value a.into.now (omega arith) (omega arith) (omega arith) l.rest v.rest;
+      rest = ap (λ (m : ℕ). m / 256) v.rest ∙ down-rest a.at a.n l.i a.value a.into.now (omega arith) (omega arith) (omega arith);
+    }
 
 pub returns : goal.returns
-returns c = let l = c.loop-left in
+returns c = let l = c.loop-i in
     let a = c.args in
-    let front : a.at + l.left ≡ a.at = omega arith in
-    let all : a.n - l.left ≡ a.n = omega arith in
-    rw (front, all) at l.invariant.2
+    let front : l.i ≡ a.at = omega arith in
+    let all : a.at + a.n - a.at ≡ a.n = omega arith in
+    rw (front, all) at l.invariant.laid

@@ -1,30 +1,16 @@
--- `base_words::place_of` meets its contract. The invariant: the place is i and the place from there on.
-use Prim.Native.Nat.{ℕ, ◌+◌, ◌-◌}
-use mathlib.Core.Path.{sym, ap, ◌∙◌}
-use native.Mathlib.Omega.{arith}
-use lib.ListN.{drop}
-use native.Mathlib.Nat.{add-zero, add_assoc}
-use Rattle.base_laws.specs.Lists.{place_of}
-use Rattle.base_laws.proofs.Compared.{place_found, place-next, place_end}
+-- `base_words::place_of` meets its contract. What `position` gives is the first place, or none.
+use Rattle.std.proofs.Common.{◌≡◌, ap, ◌∙◌, length, Option, position, rules, tests, ℕ}
+use Rattle.std.specs.Option.{unwrap_or}
+use Rattle.std.proofs.lemmas.Iterator.{YieldsList-from_slice}
+use Rattle.std.proofs.lemmas.Iterator.Search.{position_from_yields_List}
+use lib.Dec.{eqb}
+use Rattle.base_words.proofs.Places.{place_given}
 use Rattle.base_words.proofs.place_of.Goals as goal
 
-pub loop-i-init : goal.loop-i-init
-loop-i-init c = (omega arith, omega arith)
-
-pub returns-then-words-i : goal.returns-then-words-i
-returns-then-words-i c = let l = c.loop-i in
-    let a = c.args in
-    sym (l.invariant.1 ∙ ap (λ (n : ℕ). l.i + n) (place_found a.x a.words.now l.i (omega arith) c.if-words-i.true) ∙ add-zero l.i)
-
-pub loop-i-preserved : goal.loop-i-preserved
-loop-i-preserved c = let l = c.loop-i in
-    let a = c.args in (
-      omega arith,
-      l.invariant.1 ∙ ap (λ (n : ℕ). l.i + n) (place-next a.x a.words.now l.i (omega arith) c.if-words-i.false)
-          ∙ sym (add_assoc l.i 1 (place_of a.x (drop (l.i + 1) a.words.now))),
-    )
-
 pub returns : goal.returns
-returns c = let l = c.loop-i in
-    let a = c.args in
-    sym (l.invariant.1 ∙ ap (λ (n : ℕ). l.i + n) (place_end a.x a.words.now l.i (omega arith)) ∙ add-zero l.i)
+returns c =
+    let w = c.args.words.now in
+    let x = c.args.x in
+    let found : c.position.result ≡ position (λ y. eqb y x) w = position_from_yields_List (λ y. eqb y x) _ _ c.position.result
+    c.position.ensures.ran (YieldsList-from_slice w c.iter.ensures.rest) (λ y b q k. search (rules, tests)) in
+    c.unwrap_or.ensures ∙ ap (λ (o : Option ℕ). unwrap_or o (length w)) found ∙ place_given x w

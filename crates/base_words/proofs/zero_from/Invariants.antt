@@ -1,5 +1,4 @@
 -- `base_words::zero_from` meets its contract. The invariant: the words joined so far are all from i on.
-use Prim.Native.Nat.{◌-◌}
 use lib.Dec.{eqb}
 use Rattle.base_laws.proofs.Loops.{JoinedDown}
 use Rattle.base_words.specs.Words.{within}
@@ -7,6 +6,3 @@ use Rattle.base_words.proofs.zero_from.Given as goal
 
 abbrev pub invariant-loop-i : goal.invariant-loop-i
 invariant-loop-i l = JoinedDown (within 0) l.from l.words (eqb l.rest 0) l.i
-
-abbrev pub decreases-loop-i : goal.decreases-loop-i
-decreases-loop-i l = l.i

@@ -1,9 +1,10 @@
 -- `call_setting::new_setting` meets its contract: the state of the box that is made, and the answer that its number tells.
 use mathlib.Core.Path.{◌≡◌, refl, ap, ◌∙◌}
+use Rattle.std.specs.Prelude.{Result, Ok, Err}
 use Rattle.state_settings.specs.Settings.{settings_of}
 use Rattle.call_setting.specs.Told.{setting_told}
-use Rattle.call_setting.specs.declared.SettingAnswer.{SettingAnswer}
-use Rattle.call_setting.specs.declared.SettingAnswer.TheVariants.{Invalid, Set}
+use Rattle.call_setting.specs.declared.SettingRefusal.{SettingRefusal}
+use Rattle.call_setting.specs.declared.SettingRefusal.TheVariants.{Invalid}
 use Rattle.call_setting.specs.declared.Started.{Started}
 use Rattle.call_setting.specs.declared.NewBox.{NewBox}
 use Rattle.call_setting.specs.Start.{setting_of, box_of, answer_told}
@@ -12,14 +13,14 @@ use Rattle.call_setting.proofs.new_setting.Goals as goal
 
 -- the answer comes back from its number
 
-back : (x : SettingAnswer) → answer_told (setting_told x).refusal ≡ x
+back : (x : Result Unit SettingRefusal) → answer_told (setting_told x).refusal ≡ x
 unfolding setting_told
-back Invalid = refl
-back Set = refl
+back (Err Invalid) = refl
+back (Ok u) = refl
 
 -- what is made of a box that was handed out
 
-module _ (s : Started) (r : NewBox) (answer : SettingAnswer) (e : r ≡ box_of s) (f : answer ≡ answer_told r.refusal) where
+module _ (s : Started) (r : NewBox) (answer : Result Unit SettingRefusal) (e : r ≡ box_of s) (f : answer ≡ answer_told r.refusal) where
   answer-is : answer ≡ s.answer
   answer-is = f ∙ ap (λ (x : NewBox). answer_told x.refusal) e ∙ back s.answer
 

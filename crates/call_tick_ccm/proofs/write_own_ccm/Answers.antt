@@ -5,7 +5,7 @@ use mathlib.Core.Path.{refl, sym, ap, ◌∙◌}
 use mathlib.Core.List.{List}
 use lib.ListN.{length}
 use Rattle.state_settings.specs.Settings.{address_at, meg_named}
-use Rattle.state_view.specs.State.{lying}
+use Rattle.state_view.specs.State.{state_lent}
 use Rattle.message_parts.specs.Buffer.{written_of, buffer_of, written_numbers}
 use Rattle.call_tick_ccm.proofs.Said.{said}
 use Rattle.call_tick_ccm.proofs.write_own_ccm.Goals as goal
@@ -13,9 +13,9 @@ use Rattle.call_tick_ccm.proofs.write_own_ccm.Goals as goal
 pub returns : goal.returns
 returns c =
     let a = c.args in
-    let f = a.names.now in
+    let f = a.state.settings.names.now in
     let o = a.out.now in
-    let s = lying a.set a.names a.ids a.timers.now a.rdi.now a.run.now a.totals.now in
+    let s = state_lent a.state in
     let flag = c.flag_of in
     let stands = c.any_stands-stands in
     let e = said s (address_at 0 f) (meg_named f) flag.result stands.result refl refl flag.ensures stands.ensures in

@@ -11,6 +11,6 @@ returns c =
     let a = c.args in
     let w : length a.run.now ≡ run_words = search rules in
     let z : length a.totals.now ≡ loss_totals = search rules in
-    let view = passed a.set.now a.names.now a.ids.now a.timers.now a.rdi.now a.run.now a.totals.now a.left w
-    c.lower_peers.ensures c.lower_running.ensures in
+    let view = passed a.settings.set.now a.settings.names.now a.settings.ids.now a.timers.now a.rdi.now a.run.now a.totals.now a.left w
+    c.lower_all.ensures c.lower_running.ensures in
     record { totals_value = view.0; whole = record { words = view.1; both = z } }

@@ -1,6 +1,7 @@
 -- `frame_ccm::ccm_fields` meets its contract: the fields of a good CCM.
-use mathlib.Core.Path.{refl, sym, ap, ◌∙◌}
+use mathlib.Core.Path.{◌≡◌, refl, sym, ap, ◌∙◌}
 use native.Mathlib.Omega.{arith}
+use borrow.Author.Rules.{rules}
 use Rattle.base_laws.specs.Tests.{choose}
 use Rattle.frame_opcodes.specs.Opcodes.{rule_of}
 use Rattle.frame_head.specs.Head.{pdu_of}
@@ -11,7 +12,8 @@ use Rattle.frame_ccm.proofs.ccm_fields.Goals as goal
 pub returns-then-good_opcode-ne1 : goal.returns-then-good_opcode-ne1
 unfolding ccm_of
 returns-then-good_opcode-ne1 c = let f = c.args.frame.now in
-    sym (is_not f refl c.good_opcode.ensures (ccm_in (pdu_of f)) no_ccm 1 c.if-good_opcode-ne1.true)
+    let zeros : c.default.result ≡ no_ccm = search rules in
+    zeros ∙ sym (is_not f refl c.good_opcode.ensures (ccm_in (pdu_of f)) no_ccm 1 c.if-good_opcode-ne1.true)
 
 -- past the test the fixed part is there
 

@@ -1,6 +1,7 @@
 -- `frame_measures::loss_fields` meets its contract: the counts of a good LMM or LMR.
-use mathlib.Core.Path.{refl, sym, ap, ◌∙◌}
+use mathlib.Core.Path.{◌≡◌, refl, sym, ap, ◌∙◌}
 use native.Mathlib.Omega.{arith}
+use borrow.Author.Rules.{rules}
 use Rattle.base_laws.specs.Tests.{choose}
 use Rattle.frame_opcodes.specs.Opcodes.{rule_of}
 use mathlib.Core.Bool.{true, false}
@@ -12,7 +13,8 @@ use Rattle.frame_measures.proofs.loss_fields.Goals as goal
 pub returns-then-opcode : goal.returns-then-opcode
 unfolding loss_of
 returns-then-opcode c = let f = c.args.frame.now in
-    sym (either f refl c.good_opcode-opcode.ensures (loss_in (pdu_of f)) no_loss 43 42 true c.if-opcode.true)
+    let zeros : c.default.result ≡ no_loss = search rules in
+    zeros ∙ sym (either f refl c.good_opcode-opcode.ensures (loss_in (pdu_of f)) no_loss 43 42 true c.if-opcode.true)
 
 -- past the test the fixed part is there
 

@@ -1,33 +1,24 @@
--- `frame_value::zero_pattern` meets its contract: zeros alone, and the pattern type among them. The loop's invariant: what is left to test
--- decides. The
--- measure is what is left.
-use native.Mathlib.Omega.{arith}
-use Prim.Native.Nat.{◌-◌}
-use mathlib.Core.Path.{◌≡◌, refl, sym, ap, ◌∙◌}
-use mathlib.Core.Bool.{Bool, true, false, ◌&&◌}
-use lib.ListN.{length}
-use borrow.Author.Tests.{eq-eqb, ne_eqb, lt-ltb}
+-- `frame_value::zero_pattern` meets its contract: zeros alone, and the pattern type among them.
+use Rattle.std.proofs.Common.{◌≡◌, ◌∙◌, List, ◌&&◌, ℕ, ◌<◌, refl, length, rules, tests, arith}
+use Rattle.std.specs.List.{list_all}
+use Rattle.std.proofs.lemmas.Iterator.{YieldsList-from_slice}
+use Rattle.std.proofs.lemmas.Iterator.Search.{all_from_yields_List}
+use Rattle.std.proofs.lemmas.List.Recursion.{same_from_clauses}
+use Rattle.std.proofs.lemmas.Bool.Decides.{nat_tests}
+use borrow.Author.Tests.{lt-ltb}
 use Rattle.base_laws.specs.Lists.{every}
-use Rattle.base_laws.proofs.Loops.{tested_start, tested_next, tested_fails, tested_all}
 use Rattle.frame_value.specs.Values.{is_zero}
 use Rattle.frame_value.proofs.zero_pattern.Goals as goal
 
--- a test beside one that holds
+-- what `all` gives
+every_is : (l : List ℕ) → list_all is_zero l ≡ every is_zero l
+unfolding every
+every_is l = same_from_clauses (list_all is_zero) (every is_zero) (λ x b. is_zero x && b) refl (λ x m. refl) (λ x m. refl) l
 
-both : (a b : Bool) → true ≡ b → a ≡ a && b
-both true b e = e
-both false b e = refl
-
-pub loop-i-init : goal.loop-i-init
-loop-i-init c = tested_start
-
-pub returns-then-value-i-ne0 : goal.returns-then-value-i-ne0
-returns-then-value-i-ne0 c = let v = c.args.value.now in
-    tested_fails c.loop-i.invariant 0 (omega arith) (ne_eqb _ _ c.if-value-i-ne0.true)
-    ∙ sym (ap (λ (b : Bool). b && every is_zero v) (lt-ltb 0 (length v) (omega arith)))
-
-pub loop-i-preserved : goal.loop-i-preserved
-loop-i-preserved c = tested_next c.loop-i.invariant 0 (omega arith) (eq-eqb _ _ c.if-value-i-ne0.false)
-
-pub returns : goal.returns
-returns c = both _ _ (tested_all c.loop-i.invariant (omega arith))
+pub returns-then-not-is_empty : goal.returns-then-not-is_empty
+returns-then-not-is_empty c =
+    let v = c.args.value.now in
+    let zeros : c.all.result ≡ list_all is_zero v = all_from_yields_List is_zero _ _ c.all.result c.all.ensures.ran
+    (YieldsList-from_slice v c.iter.ensures.rest) (λ x b q k. search (rules, tests)) in
+    let some : 0 < length v = grind (arith, nat_tests) in
+    rw (lt-ltb 0 (length v) some) (zeros ∙ every_is v)

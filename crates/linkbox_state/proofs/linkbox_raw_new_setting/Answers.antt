@@ -2,8 +2,9 @@
 use Prim.Native.Nat.{ℕ}
 use mathlib.Core.Path.{◌≡◌, ap, ◌∙◌}
 use mathlib.Core.List.{List}
+use Rattle.std.specs.Prelude.{Result}
 use Rattle.state_settings.specs.Settings.{settings_of}
-use Rattle.call_setting.specs.declared.SettingAnswer.{SettingAnswer}
+use Rattle.call_setting.specs.declared.SettingRefusal.{SettingRefusal}
 use Rattle.call_setting.specs.declared.SettingTold.{SettingTold}
 use Rattle.call_setting.specs.Told.{setting_told}
 use Rattle.call_setting.specs.Start.{setting_of, box_of}
@@ -15,7 +16,7 @@ use Rattle.linkbox_state.proofs.linkbox_raw_new_setting.Goals as goal
 told : (words names ids : List ℕ) → box_of (setting_of words names ids) ≡ new_box words names ids
 told words names ids =
     let number : (setting_told (setting_of words names ids).answer).refusal ≡ (new_box words names ids).refusal =
-    ap (λ (x : SettingAnswer). (setting_told x).refusal) (starts.answers words names ids)
+    ap (λ (x : Result Unit SettingRefusal). (setting_told x).refusal) (starts.answers words names ids)
     ∙ ap (λ (x : SettingTold). x.refusal) (starts.agree (settings_of words names ids)) in
     ap (λ (n : ℕ). record { refusal = n; state = (setting_of words names ids).state }) number
 

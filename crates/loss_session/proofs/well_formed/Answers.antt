@@ -72,30 +72,30 @@ returns-then-s-gt-MOST_INTERVALS c =
     let session : LossSession = c.args.s in
     many session (omega (arith, c.if-s-gt-MOST_INTERVALS.true))
 
-pub returns-then-most-size : goal.returns-then-most-size
-returns-then-most-size c =
+pub returns-then-most-unsigned_abs : goal.returns-then-most-unsigned_abs
+returns-then-most-unsigned_abs c =
     let session : LossSession = c.args.s in
-    let near-is : c.size.result ≡ nat_abs session.near = let fits : SFits w64 session.near = search rules in
-    c.size.ensures ∙ ap nat_abs (back session.near fits) in
-    near_large session (omega (arith, near-is, c.if-most-size.true))
+    let near-is : c.unsigned_abs.result ≡ nat_abs session.near = let fits : SFits w64 session.near = search rules in
+    c.unsigned_abs.ensures.value ∙ ap nat_abs (back session.near fits) in
+    near_large session (omega (arith, near-is, c.if-most-unsigned_abs.true))
 
-pub returns-then-most-size-2 : goal.returns-then-most-size-2
-returns-then-most-size-2 c =
+pub returns-then-most-unsigned_abs-2 : goal.returns-then-most-unsigned_abs-2
+returns-then-most-unsigned_abs-2 c =
     let session : LossSession = c.args.s in
-    let far-is : c.size-2.result ≡ nat_abs session.far = let fits : SFits w64 session.far = search rules in
-    c.size-2.ensures ∙ ap nat_abs (back session.far fits) in
-    far_large session (omega (arith, far-is, c.if-most-size-2.true))
+    let far-is : c.unsigned_abs-2.result ≡ nat_abs session.far = let fits : SFits w64 session.far = search rules in
+    c.unsigned_abs-2.ensures.value ∙ ap nat_abs (back session.far fits) in
+    far_large session (omega (arith, far-is, c.if-most-unsigned_abs-2.true))
 
 pub returns-then-s-eq1 : goal.returns-then-s-eq1
 returns-then-s-eq1 c =
     let session : LossSession = c.args.s in
     let few-held : session.intervals ≤ most_intervals = omega (arith, c.if-s-gt-MOST_INTERVALS.false) in
-    let near-is : c.size.result ≡ nat_abs session.near = let fits : SFits w64 session.near = search rules in
-    c.size.ensures ∙ ap nat_abs (back session.near fits) in
-    let near-held : nat_abs session.near ≤ session.intervals * 4294967295 = omega (arith, near-is, c.if-most-size.false) in
-    let far-is : c.size-2.result ≡ nat_abs session.far = let fits : SFits w64 session.far = search rules in
-    c.size-2.ensures ∙ ap nat_abs (back session.far fits) in
-    let far-held : nat_abs session.far ≤ session.intervals * 4294967295 = omega (arith, far-is, c.if-most-size-2.false) in
+    let near-is : c.unsigned_abs.result ≡ nat_abs session.near = let fits : SFits w64 session.near = search rules in
+    c.unsigned_abs.ensures.value ∙ ap nat_abs (back session.near fits) in
+    let near-held : nat_abs session.near ≤ session.intervals * 4294967295 = omega (arith, near-is, c.if-most-unsigned_abs.false) in
+    let far-is : c.unsigned_abs-2.result ≡ nat_abs session.far = let fits : SFits w64 session.far = search rules in
+    c.unsigned_abs-2.ensures.value ∙ ap nat_abs (back session.far fits) in
+    let far-held : nat_abs session.far ≤ session.intervals * 4294967295 = omega (arith, far-is, c.if-most-unsigned_abs-2.false) in
     reading-kept session few-held near-held far-held (omega arith)
 
 pub returns-then-s-gt1 : goal.returns-then-s-gt1
@@ -107,12 +107,12 @@ pub returns : goal.returns
 returns c =
     let session : LossSession = c.args.s in
     let few-held : session.intervals ≤ most_intervals = omega (arith, c.if-s-gt-MOST_INTERVALS.false) in
-    let near-is : c.size.result ≡ nat_abs session.near = let fits : SFits w64 session.near = search rules in
-    c.size.ensures ∙ ap nat_abs (back session.near fits) in
-    let near-held : nat_abs session.near ≤ session.intervals * 4294967295 = omega (arith, near-is, c.if-most-size.false) in
-    let far-is : c.size-2.result ≡ nat_abs session.far = let fits : SFits w64 session.far = search rules in
-    c.size-2.ensures ∙ ap nat_abs (back session.far fits) in
-    let far-held : nat_abs session.far ≤ session.intervals * 4294967295 = omega (arith, far-is, c.if-most-size-2.false) in
+    let near-is : c.unsigned_abs.result ≡ nat_abs session.near = let fits : SFits w64 session.near = search rules in
+    c.unsigned_abs.ensures.value ∙ ap nat_abs (back session.near fits) in
+    let near-held : nat_abs session.near ≤ session.intervals * 4294967295 = omega (arith, near-is, c.if-most-unsigned_abs.false) in
+    let far-is : c.unsigned_abs-2.result ≡ nat_abs session.far = let fits : SFits w64 session.far = search rules in
+    c.unsigned_abs-2.ensures.value ∙ ap nat_abs (back session.far fits) in
+    let far-held : nat_abs session.far ≤ session.intervals * 4294967295 = omega (arith, far-is, c.if-most-unsigned_abs-2.false) in
     let s = session in
     let none : s.kept ≡ 0 = omega (arith, c.if-s-eq1.false, c.if-s-gt1.false) in
     ap (λ (z : Bool). eqb s.intervals 0 && z) c.all_zero.ensures

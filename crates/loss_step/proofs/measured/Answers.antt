@@ -6,11 +6,12 @@ use lib.IntN.{ℤ, ◌+ℤ◌}
 use mir.Syntax.{w64}
 use mir.Val.{SFits, to_z, of_z}
 use borrow.Author.Rules.{rules}
+use Rattle.std.specs.Prelude.{Ok, Some}
+use Rattle.loss_reading.specs.Losses.{losses_of}
 use Rattle.base_laws.proofs.Stored.{back}
 use Rattle.loss_session.specs.declared.LossSession.{LossSession}
 use Rattle.loss_session.specs.declared.Readings.{Readings}
 use Rattle.loss_session.specs.Session.{near, far}
-use Rattle.loss_reading.specs.declared.LossAnswer.TheVariants.{Measured}
 use Rattle.loss_reading.specs.Reading.{loss_on, measured_of}
 use Rattle.loss_step.proofs.Totals.{plus_fits}
 use Rattle.loss_step.proofs.measured.Goals as goal
@@ -37,7 +38,7 @@ plus-requires-2 c =
 
 made : (s : LossSession) (r : Readings) (a b n f : ℤ) → a ≡ loss_on near s.last r → b ≡ loss_on far s.last r → n ≡ s.near +ℤ a
     → f ≡ s.far +ℤ b
-    → record { answer = Measured a b; session = record { kept = s.kept; intervals = s.intervals + 1; last = r; near = n; far = f } }
+    → record { answer = Ok (Some (losses_of a b)); session = record { kept = s.kept; intervals = s.intervals + 1; last = r; near = n; far = f } }
     ≡ measured_of s r
 made s r a b n f ea eb en ef = rw (en, ef, ea, eb) refl
 

@@ -7,15 +7,15 @@ use mathlib.Core.List.{List}
 use lib.Dec.{ltb}
 use lib.ListN.{length, get_or, length-drop}
 use borrow.Author.Tests.{lt-ltb, le-ltb, le-leb, lt-leb, not-true, not-false}
+use Rattle.std.specs.Prelude.{Result, Ok, Err}
 use Rattle.state_settings.specs.Settings.{own_named, losspeer_named}
 use Rattle.frame_opcodes.specs.declared.Rule.{Rule}
 use Rattle.frame_opcodes.specs.Opcodes.{rule_of}
 use Rattle.frame_head.specs.Head.{length_good, pdu_of, opcode_of, flags_of, offset_of, start_of}
 use Rattle.frame_tlvs.specs.Tlvs.{tlvs_whole}
 use Rattle.frame_message.specs.Message.{period_code, code_good}
+use Rattle.receive_answer.specs.declared.Drop.{Drop}
 use Rattle.receive_answer.specs.declared.Drop.TheVariants as drop
-use Rattle.receive_decide.specs.declared.Looked.{Looked}
-use Rattle.receive_decide.specs.declared.Looked.TheVariants.{Drops, Good}
 use Rattle.receive_decide.specs.Decide.{is_ours}
 use Rattle.receive_decide.specs.OneLook.{look_at}
 use Rattle.receive_decide.proofs.Looks.{not-handled, too_long, low-offset, cut, not_ours, bad-code, all-good}
@@ -28,21 +28,21 @@ module _ (names f : List ℕ) (rule : Rule) (long : 18 ≤ length f) (row-is : r
   row = rule_of (opcode_of (pdu_of f))
 
   -- what the definition finds
-  abbrev Finds : Looked → Type 0
+  abbrev Finds : Result Unit Drop → Type 0
   Finds l = l ≡ look_at (own_named names) (losspeer_named names) f
 
   -- a column of the row that was given
   column : {A : Type 0} (g : Rule → A) → g row ≡ g rule
   column g = ap g (sym row-is)
 
-  unhandled : rule.handled ≡ false → Finds (Drops drop.Opcode)
+  unhandled : rule.handled ≡ false → Finds (Err drop.Opcode)
   unhandled n = sym (not-handled (own_named names) (losspeer_named names) f (column (λ r. r.handled) ∙ n))
 
   module _ (h : rule.handled ≡ true) where
     handled : row.handled ≡ true
     handled = column (λ r. r.handled) ∙ h
 
-    longer : 1514 < length f → Finds (Drops drop.Short)
+    longer : 1514 < length f → Finds (Err drop.Short)
     longer k =
         sym (too_long (own_named names) (losspeer_named names) f handled (rw (le-leb 14 (length f) (omega arith), lt-leb (length f) 1514 k)))
 
@@ -51,7 +51,7 @@ module _ (names f : List ℕ) (rule : Rule) (long : 18 ≤ length f) (row-is : r
       good : length_good f ≡ true
       good = rw (le-leb 14 (length f) (omega arith), le-leb (length f) 1514 short)
 
-      low : get_or p 3 0 < rule.least → Finds (Drops drop.Offset)
+      low : get_or p 3 0 < rule.least → Finds (Err drop.Offset)
       low k =
           sym (low-offset (own_named names) (losspeer_named names) f handled good (lt-ltb (offset_of (pdu_of f)) row.least
           (omega (arith, k, column (λ r. r.least), ap offset_of pdu))))
@@ -63,11 +63,11 @@ module _ (names f : List ℕ) (rule : Rule) (long : 18 ≤ length f) (row-is : r
         walked : tlvs_whole (start_of (pdu_of f)) (pdu_of f) ≡ whole-found
         walked = sym (w ∙ ap (λ (p : List ℕ). tlvs_whole (start_of p) p) pdu)
 
-        cuts : whole-found ≡ false → Finds (Drops drop.CutOff)
+        cuts : whole-found ≡ false → Finds (Err drop.CutOff)
         cuts e = sym (cut (own_named names) (losspeer_named names) f handled good large (walked ∙ e))
 
         module _ (whole : whole-found ≡ true) {ours-found : Bool} (u : ours-found ≡ is_ours (own_named names) (losspeer_named names) f) where
-          others : ours-found ≡ false → Finds (Drops drop.Destination)
+          others : ours-found ≡ false → Finds (Err drop.Destination)
           others e = sym (not_ours (own_named names) (losspeer_named names) f handled good large (walked ∙ whole) (sym u ∙ e))
 
           module _ (ours : ours-found ≡ true) {code-found : Bool} {code : ℕ} (g : code-found ≡ code_good rule code)
@@ -75,10 +75,10 @@ module _ (names f : List ℕ) (rule : Rule) (long : 18 ≤ length f) (row-is : r
             coded : code_good row (period_code (flags_of (pdu_of f))) ≡ code-found
             coded = sym (g ∙ ap₂ code_good row-is (v ∙ ap (λ (p : List ℕ). period_code (flags_of p)) pdu))
 
-            bad : code-found ≡ false → Finds (Drops drop.Value)
+            bad : code-found ≡ false → Finds (Err drop.Value)
             bad e = sym (bad-code (own_named names) (losspeer_named names) f handled good large (walked ∙ whole) (sym u ∙ ours) (coded ∙ e))
 
-            all : code-found ≡ true → Finds Good
+            all : code-found ≡ true → Finds (Ok tt)
             all e = sym (all-good (own_named names) (losspeer_named names) f handled good large (walked ∙ whole) (sym u ∙ ours) (coded ∙ e))
 
 -- the PDU has its head

@@ -5,6 +5,7 @@ use Prim.Native.Nat.{ℕ, ◌≤◌}
 use mathlib.Core.Bool.{true}
 use mathlib.Core.List.{List}
 use lib.ListN.{length, length-drop}
+use Rattle.std.specs.Prelude.{Result, Ok}
 use Rattle.state_settings.specs.Settings.{Settings, settings_of}
 use Rattle.base_stamp.specs.declared.Stamp.{Stamp}
 use Rattle.frame_opcodes.specs.declared.Rule.{Rule}
@@ -13,8 +14,7 @@ use Rattle.frame_head.specs.Head.{oam_frame, pdu_of, opcode_of}
 use Rattle.receive_handle.specs.Handle.{handled_of}
 use Rattle.receive_handle.proofs.Handled.{handled-whole}
 use Rattle.receive_handle.specs.declared.Decision.{Decision}
-use Rattle.receive_decide.specs.declared.Looked.{Looked}
-use Rattle.receive_decide.specs.declared.Looked.TheVariants.{Good}
+use Rattle.receive_answer.specs.declared.Drop.{Drop}
 use Rattle.receive_decide.specs.Decide.{own_of}
 use Rattle.receive_decide.specs.OneLook.{look_at, by_look}
 use Rattle.receive_decide.proofs.OneLook.{one_look}
@@ -29,13 +29,13 @@ module _ (settings : Settings) (frame : List ℕ) (receive : Stamp) (long : 18 �
   row : {r : Rule} → r ≡ rule_of (opcode_of pdu) → r ≡ rule_of (opcode_of (pdu_of frame))
   row e = e ∙ ap (λ (p : List ℕ). rule_of (opcode_of p)) is
 
-  module _ (oam : oam_frame frame ≡ true) {found : Looked} (look : found ≡ look_at settings.own settings.losspeer frame) where
+  module _ (oam : oam_frame frame ≡ true) {found : Result Unit Drop} (look : found ≡ look_at settings.own settings.losspeer frame) where
     -- what the look found decides
-    decides : {l : Looked} → found ≡ l → by_look settings frame receive l ≡ own_of settings frame receive
+    decides : {l : Result Unit Drop} → found ≡ l → by_look settings frame receive l ≡ own_of settings frame receive
     decides e = ap (by_look settings frame receive) (sym e ∙ look) ∙ sym (one_look.agrees settings frame receive oam long)
 
     -- a good frame is handled by its row
-    handles : {r : Rule} {d : Decision} → found ≡ Good → r ≡ rule_of (opcode_of pdu) → d ≡ handled_of settings pdu receive r.handler
+    handles : {r : Rule} {d : Decision} → found ≡ Ok tt → r ≡ rule_of (opcode_of pdu) → d ≡ handled_of settings pdu receive r.handler
         → d ≡ own_of settings frame receive
     unfolding by_look
     handles {r = r} good e f =
@@ -62,16 +62,16 @@ look-requires c =
       rule_value = row t a.frame.now a.receive c.requires.behind_head_in_bounds _ c.pdu_of-pdu.ensures.0 c.rule_of-rule.ensures;
     }
 
-pub returns-in-Drops : goal.returns-in-Drops
+pub returns-in-Err : goal.returns-in-Err
 unfolding by_look
-returns-in-Drops c =
+returns-in-Err c =
     let a = c.args in
     let t = settings_of a.set.now a.names.now a.ids.now in
-    decides t a.frame.now a.receive c.requires.behind_head_in_bounds _ c.pdu_of-pdu.ensures.0 c.requires.frame_value c.look.ensures c.in-Drops.is
+    decides t a.frame.now a.receive c.requires.behind_head_in_bounds _ c.pdu_of-pdu.ensures.0 c.requires.frame_value c.look.ensures c.in-Err.is
 
-pub returns-in-Good : goal.returns-in-Good
-returns-in-Good c =
+pub returns-in-Ok : goal.returns-in-Ok
+returns-in-Ok c =
     let a = c.args in
     let t = settings_of a.set.now a.names.now a.ids.now in
-    handles t a.frame.now a.receive c.requires.behind_head_in_bounds _ c.pdu_of-pdu.ensures.0 c.requires.frame_value c.look.ensures c.in-Good.is
+    handles t a.frame.now a.receive c.requires.behind_head_in_bounds _ c.pdu_of-pdu.ensures.0 c.requires.frame_value c.look.ensures c.in-Ok.is
     c.rule_of-rule.ensures c.handle_message.ensures

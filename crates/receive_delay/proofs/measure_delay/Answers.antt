@@ -8,10 +8,12 @@ use lib.IntN.{ℤ, nat_abs, ◌-ℤ◌}
 use mir.Syntax.{w64}
 use mir.Val.{SFits}
 use borrow.Author.Rules.{rules}
+use Rattle.std.specs.Prelude.{Result, Ok}
 use Rattle.base_laws.proofs.Stored.{back, fits-size}
 use Rattle.base_stamp.specs.declared.Stamp.{Stamp}
-use Rattle.receive_delay.specs.declared.DelayAnswer.{DelayAnswer}
-use Rattle.receive_delay.specs.declared.DelayAnswer.TheVariants.{TwoWay, AllWays}
+use Rattle.receive_delay.specs.declared.NoDelay.{NoDelay}
+use Rattle.receive_delay.specs.declared.DelayValues.{DelayValues}
+use Rattle.receive_delay.specs.declared.DelayValues.TheVariants.{TwoWay, AllWays}
 use Rattle.receive_delay.specs.Used.{usable}
 use Rattle.receive_delay.specs.Delays.{delays_of}
 use Rattle.receive_delay.specs.Told.{delay_told, delay_numbers}
@@ -21,7 +23,7 @@ use Rattle.receive_delay.proofs.measure_delay.Goals as goal
 
 -- an answer that is the definition's tells the paper's numbers
 
-kept : (txf rxf txb here : Stamp) (a : DelayAnswer) → a ≡ delays_of txf rxf txb here → (a ≡ delays_of txf rxf txb here)
+kept : (txf rxf txb here : Stamp) (a : Result DelayValues NoDelay) → a ≡ delays_of txf rxf txb here → (a ≡ delays_of txf rxf txb here)
     × (delay_told a ≡ delay_numbers txf rxf txb here)
 kept txf rxf txb here a e = (e, ap delay_told e ∙ told-numbers txf rxf txb here)
 
@@ -30,7 +32,7 @@ kept txf rxf txb here a e = (e, ap delay_told e ∙ told-numbers txf rxf txb her
 bound : {x y : ℤ} → (x ≡ y) × (nat_abs x ≤ furthest) → nat_abs y ≤ furthest
 bound h = rw h.0 at h.1
 
-all_ways : {a b c d e f : ℤ} → a ≡ b → c ≡ d → e ≡ f → AllWays a c e ≡ AllWays b d f
+all_ways : {a b c d e f : ℤ} → a ≡ b → c ≡ d → e ≡ f → ◌≡◌ {A = Result DelayValues NoDelay} (Ok (AllWays a c e)) (Ok (AllWays b d f))
 all_ways p q r = rw (p, q, r)
 
 pub returns-then-not-stamps_good : goal.returns-then-not-stamps_good
@@ -43,7 +45,7 @@ returns-then-not-pair c =
     let d = c in
     let e = back d.difference-all.result all-fits ∙ d.difference-all.ensures.0 in
     kept _ _ _ _ _
-    (ap TwoWay e ∙ sym (delays-two _ _ _ _ used (bound d.difference-all.ensures) (sym c.pair.ensures
+    (ap (λ (t : ℤ). Ok (TwoWay t)) e ∙ sym (delays-two _ _ _ _ used (bound d.difference-all.ensures) (sym c.pair.ensures
     ∙ c.if-not-pair.true)))
 
 pub less-requires : goal.less-requires

@@ -4,6 +4,7 @@ use mathlib.Core.Bool.{Bool, ◌&&◌}
 use borrow.Author.Tests.{not-false, not-true}
 use mathlib.Core.List.{List}
 use Prim.Native.Nat.{ℕ}
+use Rattle.std.specs.Prelude.{Result}
 use Rattle.base_laws.specs.Ended.{Ended}
 use Rattle.state_view.specs.State.{State, view_of}
 use Rattle.base_stamp.specs.declared.Stamp.{Stamp}
@@ -15,19 +16,20 @@ use Rattle.receive_frame.specs.Numbers.{frame_numbers}
 use Rattle.receive_frame.proofs.Numbers.{agree}
 use Rattle.receive_frame.proofs.Stages.{outside, refused_2, refused_1, refused_6, heeded}
 use borrow.Author.Rules.{rules}
-use Rattle.receive_answer.specs.declared.FrameAnswer.{FrameAnswer}
+use Rattle.receive_answer.specs.declared.FrameRefusal.{FrameRefusal}
+use Rattle.receive_answer.specs.declared.FrameDone.{FrameDone}
 use Rattle.receive_frame.proofs.on_frame.Goals as goal
 
 -- what the definition's outcome is told
 module _ (s : State) (side : Side) (f : List ℕ) (receive transmit : Stamp) (buffer : List ℕ) where
-  told : {x : Ended State FrameAnswer} → x ≡ frame_of s side f receive transmit buffer
+  told : {x : Ended State (Result FrameDone FrameRefusal)} → x ≡ frame_of s side f receive transmit buffer
       → frame_told x.answer ≡ frame_numbers s side f receive transmit buffer
-  told e = ap (λ (y : Ended State FrameAnswer). frame_told y.answer) e ∙ agree s side f receive transmit buffer
+  told e = ap (λ (y : Ended State (Result FrameDone FrameRefusal)). frame_told y.answer) e ∙ agree s side f receive transmit buffer
 
 pub returns-then-not-is_well_formed : goal.returns-then-not-is_well_formed
 returns-then-not-is_well_formed c =
     let a = c.args in
-    let s = view_of a.set.now a.names.now a.ids.now a.timers.now a.rdi.now a.run.now a.totals.now in
+    let s = view_of a.settings.set.now a.settings.names.now a.settings.ids.now a.timers.now a.rdi.now a.run.now a.totals.now in
     let f = a.frame.now in
     let o = a.out.now in
     let e = sym (refused_2 s a.side f a.receive a.transmit o (sym c.is_well_formed.ensures ∙ c.if-not-is_well_formed.true)) in
@@ -42,7 +44,7 @@ returns-then-not-is_well_formed c =
 pub returns-then-frame : goal.returns-then-frame
 returns-then-frame c =
     let a = c.args in
-    let s = view_of a.set.now a.names.now a.ids.now a.timers.now a.rdi.now a.run.now a.totals.now in
+    let s = view_of a.settings.set.now a.settings.names.now a.settings.ids.now a.timers.now a.rdi.now a.run.now a.totals.now in
     let f = a.frame.now in
     let o = a.out.now in
     let e =
@@ -59,7 +61,7 @@ returns-then-frame c =
 pub returns-then-not-good_stamp : goal.returns-then-not-good_stamp
 returns-then-not-good_stamp c =
     let a = c.args in
-    let s = view_of a.set.now a.names.now a.ids.now a.timers.now a.rdi.now a.run.now a.totals.now in
+    let s = view_of a.settings.set.now a.settings.names.now a.settings.ids.now a.timers.now a.rdi.now a.run.now a.totals.now in
     let f = a.frame.now in
     let o = a.out.now in
     let e =
@@ -77,7 +79,7 @@ returns-then-not-good_stamp c =
 pub returns : goal.returns
 returns c =
     let a = c.args in
-    let s = view_of a.set.now a.names.now a.ids.now a.timers.now a.rdi.now a.run.now a.totals.now in
+    let s = view_of a.settings.set.now a.settings.names.now a.settings.ids.now a.timers.now a.rdi.now a.run.now a.totals.now in
     let f = a.frame.now in
     let o = a.out.now in
     let e =

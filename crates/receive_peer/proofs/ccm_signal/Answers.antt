@@ -51,7 +51,7 @@ returns-then-peers-slot c = let a = c.args in
     let t = settings_of a.set.now a.names.now a.ids.now in
     let p = a.pdu.now in
     unknown t p _ (meg_found a.names.now p _ c.same_octets.ensures) _ _ _ _
-    c.front-peers.ensures c.read_big.ensures.is
+    c.front-peers.ensures.0 c.read_big.ensures.is
     c.mep_id_of.ensures c.place_of-slot.ensures (c.if-not-same_octets.false)
     c.if-peers-slot.true
 
@@ -60,7 +60,7 @@ returns-then-period_code_of-set c = let a = c.args in
     let t = settings_of a.set.now a.names.now a.ids.now in
     let p = a.pdu.now in
     other_period t p _ (meg_found a.names.now p _ c.same_octets.ensures) _ _ _ _
-    c.front-peers.ensures c.read_big.ensures.is
+    c.front-peers.ensures.0 c.read_big.ensures.is
     c.mep_id_of.ensures c.place_of-slot.ensures
     (c.if-not-same_octets.false) _ _ c.period_code_of.ensures
     c.rdi_of-rdi.ensures.0 (omega arith) c.if-period_code_of-set.true
@@ -70,7 +70,7 @@ returns c = let a = c.args in
     let t = settings_of a.set.now a.names.now a.ids.now in
     let p = a.pdu.now in
     peer t p _ (meg_found a.names.now p _ c.same_octets.ensures) _ _ _ _
-    c.front-peers.ensures c.read_big.ensures.is
+    c.front-peers.ensures.0 c.read_big.ensures.is
     c.mep_id_of.ensures c.place_of-slot.ensures
     (c.if-not-same_octets.false) _ _ c.period_code_of.ensures
     c.rdi_of-rdi.ensures.0 (omega arith) c.if-period_code_of-set.false

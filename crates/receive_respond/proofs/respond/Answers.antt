@@ -2,19 +2,21 @@
 use Prim.Native.Nat.{ℕ}
 use mathlib.Core.Path.{◌≡◌, ap, ◌∙◌}
 use mathlib.Core.List.{List}
-use Rattle.state_view.specs.State.{view_of}
+use Rattle.std.specs.Prelude.{Result}
+use Rattle.state_view.specs.State.{state_lent}
 use Rattle.message_lbr.specs.Lbr.{lbr_octets}
 use Rattle.message_lmr.specs.Lmr.{lmr_octets}
 use Rattle.message_dmr.specs.Dmr.{dmr_octets}
-use Rattle.message_reply.specs.declared.Replied.{Replied}
+use Rattle.message_reply.specs.declared.ReplyRefusal.{ReplyRefusal}
 use Rattle.message_reply.specs.Replied.{replied_of, left_of}
-use Rattle.receive_answer.specs.declared.FrameAnswer.{FrameAnswer}
+use Rattle.receive_answer.specs.declared.FrameRefusal.{FrameRefusal}
+use Rattle.receive_answer.specs.declared.FrameDone.{FrameDone}
 use Rattle.receive_respond.specs.Respond.{answer_for, responded_of, left_after}
 use Rattle.receive_respond.proofs.respond.Goals as goal
 
 -- one reply, whichever it is: written with our own address, answered by what its writer answered, left as its writer left it
 
-reply : (n : ℕ) (octets : List ℕ → List ℕ) (f buffer : List ℕ) {read own left : List ℕ} {w : Replied} {r : FrameAnswer}
+reply : (n : ℕ) (octets : List ℕ → List ℕ) (f buffer : List ℕ) {read own left : List ℕ} {w : Result ℕ ReplyRefusal} {r : Result FrameDone FrameRefusal}
     → r ≡ answer_for w → w ≡ replied_of n f (octets read) buffer → left ≡ left_of n f (octets read) buffer → read ≡ own
     → (r ≡ answer_for (replied_of n f (octets own) buffer)) × (left ≡ left_of n f (octets own) buffer)
 reply n octets f buffer e w l o = (
@@ -25,7 +27,7 @@ reply n octets f buffer e w l o = (
 pub returns-in-Loopback : goal.returns-in-Loopback
 unfolding responded_of left_after
 returns-in-Loopback c = let a = c.args in
-    let s = view_of a.set.now a.names.now a.ids.now a.timers.now a.rdi.now a.run.now a.totals.now in
+    let s = state_lent a.state in
     let f = a.frame.now in
     let w = c.write_lbr.ensures in
     rw c.in-Loopback.is
@@ -36,7 +38,7 @@ returns-in-Loopback c = let a = c.args in
 pub returns-in-Loss : goal.returns-in-Loss
 unfolding responded_of left_after
 returns-in-Loss c = let a = c.args in
-    let s = view_of a.set.now a.names.now a.ids.now a.timers.now a.rdi.now a.run.now a.totals.now in
+    let s = state_lent a.state in
     let f = a.frame.now in
     let w = c.write_lmr.ensures in
     rw c.in-Loss.is
@@ -47,7 +49,7 @@ returns-in-Loss c = let a = c.args in
 pub returns-in-Delay : goal.returns-in-Delay
 unfolding responded_of left_after
 returns-in-Delay c = let a = c.args in
-    let s = view_of a.set.now a.names.now a.ids.now a.timers.now a.rdi.now a.run.now a.totals.now in
+    let s = state_lent a.state in
     let f = a.frame.now in
     let w = c.write_dmr.ensures in
     rw c.in-Delay.is

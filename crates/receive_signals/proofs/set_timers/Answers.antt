@@ -56,7 +56,8 @@ returns-in-Mismerge c =
     let a = c.args in
     let long : length a.run.now ≡ run_words = search rules in
     let both : length a.totals.now ≡ loss_totals = search rules in
-    let w = word_set a.set.now a.names.now a.ids.now a.timers.now a.rdi.now a.run.now a.totals.now long both word.mismerge c.hold_of-hold.ensures in
+    let w = word_set a.settings.set.now a.settings.names.now a.settings.ids.now a.timers.now a.rdi.now a.run.now a.totals.now long both
+    word.mismerge c.hold_of-hold.ensures in
     rw c.in-Mismerge.is record { totals_value = w.0; whole = w.1 }
 
 pub returns-in-UnexpectedMep : goal.returns-in-UnexpectedMep
@@ -65,7 +66,8 @@ returns-in-UnexpectedMep c =
     let a = c.args in
     let long : length a.run.now ≡ run_words = search rules in
     let both : length a.totals.now ≡ loss_totals = search rules in
-    let w = word_set a.set.now a.names.now a.ids.now a.timers.now a.rdi.now a.run.now a.totals.now long both word.unexpected_mep c.hold_of-hold.ensures in
+    let w = word_set a.settings.set.now a.settings.names.now a.settings.ids.now a.timers.now a.rdi.now a.run.now a.totals.now long both
+    word.unexpected_mep c.hold_of-hold.ensures in
     rw c.in-UnexpectedMep.is record { totals_value = w.0; whole = w.1 }
 
 pub returns-in-Heard : goal.returns-in-Heard
@@ -74,7 +76,8 @@ returns-in-Heard c =
     let a = c.args in
     let long : length a.run.now ≡ run_words = search rules in
     let both : length a.totals.now ≡ loss_totals = search rules in
-    let w = peer-set a.set.now a.names.now a.ids.now a.timers.now a.rdi.now a.run.now a.totals.now long both _ _ _ c.put_slot.ensures c.put_slot-in-Heard.ensures c.hold_of-hold.ensures in
+    let w = peer-set a.settings.set.now a.settings.names.now a.settings.ids.now a.timers.now a.rdi.now a.run.now a.totals.now long both
+    _ _ _ c.put_slot.ensures c.put_slot-in-Heard.ensures c.hold_of-hold.ensures in
     rw c.in-Heard.is record { totals_value = w.0; whole = w.1 }
 
 pub returns-in-UnexpectedPeriod : goal.returns-in-UnexpectedPeriod
@@ -83,7 +86,8 @@ returns-in-UnexpectedPeriod c =
     let a = c.args in
     let long : length a.run.now ≡ run_words = search rules in
     let both : length a.totals.now ≡ loss_totals = search rules in
-    let w = other-set a.set.now a.names.now a.ids.now a.timers.now a.rdi.now a.run.now a.totals.now long both _ _ _ c.put_slot-in-UnexpectedPeriod.ensures c.put_slot-in-UnexpectedPeriod-2.ensures
+    let w = other-set a.settings.set.now a.settings.names.now a.settings.ids.now a.timers.now a.rdi.now a.run.now a.totals.now long both
+    _ _ _ c.put_slot-in-UnexpectedPeriod.ensures c.put_slot-in-UnexpectedPeriod-2.ensures
     c.hold_of-hold.ensures in
     rw c.in-UnexpectedPeriod.is record { totals_value = w.0; whole = w.1 }
 
@@ -93,7 +97,8 @@ returns-in-Alarm c =
     let a = c.args in
     let long : length a.run.now ≡ run_words = search rules in
     let both : length a.totals.now ≡ loss_totals = search rules in
-    let w = word_set a.set.now a.names.now a.ids.now a.timers.now a.rdi.now a.run.now a.totals.now long both word.ais c.hold_of.ensures in
+    let w = word_set a.settings.set.now a.settings.names.now a.settings.ids.now a.timers.now a.rdi.now a.run.now a.totals.now long both
+    word.ais c.hold_of.ensures in
     rw c.in-Alarm.is record { totals_value = w.0; whole = w.1 }
 
 pub returns-in-Lock : goal.returns-in-Lock
@@ -102,5 +107,6 @@ returns-in-Lock c =
     let a = c.args in
     let long : length a.run.now ≡ run_words = search rules in
     let both : length a.totals.now ≡ loss_totals = search rules in
-    let w = word_set a.set.now a.names.now a.ids.now a.timers.now a.rdi.now a.run.now a.totals.now long both word.lck c.hold_of-in-Lock.ensures in
+    let w = word_set a.settings.set.now a.settings.names.now a.settings.ids.now a.timers.now a.rdi.now a.run.now a.totals.now long both
+    word.lck c.hold_of-in-Lock.ensures in
     rw c.in-Lock.is record { totals_value = w.0; whole = w.1 }

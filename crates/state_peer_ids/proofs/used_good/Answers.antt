@@ -1,12 +1,9 @@
 -- `state_peer_ids::used_good` meets its contract. The invariant: the IDs before i are good, and no two of them are alike.
-use Prim.Native.Nat.{◌-◌, ◌≤◌}
+use Prim.Native.Nat.{◌≤◌}
 use mathlib.Core.Path.{sym, ◌∙◌}
-use mathlib.Core.Bool.{true}
 use native.Mathlib.Omega.{arith}
-use lib.ListN.{length, take}
+use lib.ListN.{length}
 use lib.Seq.{length-take-le}
-use Rattle.base_laws.specs.Lists.{absent}
-use Rattle.state_peer_ids.specs.Ids.{id_good}
 use Rattle.state_peer_ids.proofs.Used.{held_start, held_next, held_all, bad_id, twice}
 use Rattle.state_peer_ids.proofs.used_good.Goals as goal
 

@@ -16,7 +16,7 @@ returns c =
     let z : length a.totals.now ≡ loss_totals = search rules in
     let n : to_z w64 (of_z w64 a.session.near) ≡ a.session.near = search rules in
     let f : to_z w64 (of_z w64 a.session.far) ≡ a.session.far = search rules in record {
-      totals_value = rw (n, f) (Stores.session a.set.now a.names.now a.ids.now a.timers.now a.rdi.now a.session a.run.now
+      totals_value = rw (n, f) (Stores.session a.settings.set.now a.settings.names.now a.settings.ids.now a.timers.now a.rdi.now a.session a.run.now
           a.totals.now w z);
       whole = record { words = simp length-set w; both = simp length-set z };
     }

@@ -6,4 +6,4 @@ use Rattle.state_standing.proofs.any_stands.Goals as goal
 
 pub returns : goal.returns
 unfolding standing
-returns c = rw (c.is_absent-heard.ensures ∙ ap (absent 0) c.front.ensures)
+returns c = rw (c.is_absent-heard.ensures ∙ ap (absent 0) c.front.ensures.0)

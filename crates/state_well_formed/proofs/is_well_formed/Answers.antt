@@ -4,7 +4,7 @@ use mathlib.Core.Bool.{true}
 use Rattle.loss_session.specs.Session as Session
 use Rattle.base_period.specs.Periods.{ticks_of}
 use Rattle.state_settings.specs.Valid.{valid}
-use Rattle.state_view.specs.State.{State, view_of}
+use Rattle.state_view.specs.State.{State, state_lent}
 use Rattle.state_view.specs.WellFormed.{own_most, timers_good, next_good, slots_good, well_formed}
 use Rattle.base_laws.proofs.Tests.{passes, stops}
 use Rattle.state_well_formed.proofs.is_well_formed.Goals as goal
@@ -16,16 +16,14 @@ use Rattle.state_well_formed.proofs.is_well_formed.Goals as goal
 pub returns-then-not-is_valid : goal.returns-then-not-is_valid
 unfolding well_formed
 returns-then-not-is_valid c =
-    let state : State = let a = c.args in
-    view_of a.set.now a.names.now a.ids.now a.timers.now a.rdi.now a.run.now a.totals.now in
+    let state : State = state_lent c.args.state in
     let valid-says : valid state.settings ≡ c.is_valid.result = sym c.is_valid.ensures in
     stops _ _ (valid-says ∙ c.if-not-is_valid.true)
 
 pub returns-then-not-timers_good : goal.returns-then-not-timers_good
 unfolding well_formed
 returns-then-not-timers_good c =
-    let state : State = let a = c.args in
-    view_of a.set.now a.names.now a.ids.now a.timers.now a.rdi.now a.run.now a.totals.now in
+    let state : State = state_lent c.args.state in
     let timers-say : timers_good state (own_most state) ≡ c.timers_good.result = ap (timers_good state) (sym c.hold_of-hold.ensures) ∙ sym c.timers_good.ensures in
     let valid-says : valid state.settings ≡ c.is_valid.result = sym c.is_valid.ensures in
     let valid-held : valid state.settings ≡ true = valid-says ∙ c.if-not-is_valid.false in
@@ -34,8 +32,7 @@ returns-then-not-timers_good c =
 pub returns-then-not-next_good : goal.returns-then-not-next_good
 unfolding well_formed
 returns-then-not-next_good c =
-    let state : State = let a = c.args in
-    view_of a.set.now a.names.now a.ids.now a.timers.now a.rdi.now a.run.now a.totals.now in
+    let state : State = state_lent c.args.state in
     let next-says : next_good state.next (ticks_of state.settings.period) ≡ c.next_good.result = ap (next_good state.next) (sym c.ticks_of.ensures) ∙ sym c.next_good.ensures in
     let valid-says : valid state.settings ≡ c.is_valid.result = sym c.is_valid.ensures in
     let valid-held : valid state.settings ≡ true = valid-says ∙ c.if-not-is_valid.false in
@@ -46,8 +43,7 @@ returns-then-not-next_good c =
 pub returns-then-not-slots_good : goal.returns-then-not-slots_good
 unfolding well_formed
 returns-then-not-slots_good c =
-    let state : State = let a = c.args in
-    view_of a.set.now a.names.now a.ids.now a.timers.now a.rdi.now a.run.now a.totals.now in
+    let state : State = state_lent c.args.state in
     let slots-say : (let s = state in slots_good s.timers s.rdi s.settings.count (own_most s)) ≡ c.slots_good.result = let s = state in
     ap (slots_good s.timers s.rdi s.settings.count) (sym c.hold_of-hold.ensures)
     ∙ sym c.slots_good.ensures in
@@ -63,8 +59,7 @@ returns-then-not-slots_good c =
 pub returns : goal.returns
 unfolding well_formed
 returns c =
-    let state : State = let a = c.args in
-    view_of a.set.now a.names.now a.ids.now a.timers.now a.rdi.now a.run.now a.totals.now in
+    let state : State = state_lent c.args.state in
     let valid-says : valid state.settings ≡ c.is_valid.result = sym c.is_valid.ensures in
     let valid-held : valid state.settings ≡ true = valid-says ∙ c.if-not-is_valid.false in
     let timers-say : timers_good state (own_most state) ≡ c.timers_good.result = ap (timers_good state) (sym c.hold_of-hold.ensures) ∙ sym c.timers_good.ensures in

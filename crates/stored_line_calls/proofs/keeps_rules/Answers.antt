@@ -10,4 +10,5 @@ returns c =
     let a = c.args in
     let near : to_z w64 (of_z w64 a.line.near) ≡ a.line.near = search rules in
     let far : to_z w64 (of_z w64 a.line.far) ≡ a.line.far = search rules in
-    rw (near, far) at c.well_formed-2.ensures
+    let none : c.default.result ≡ record { txf = 0; rxf = 0; txb = 0; ours = 0 } = search rules in
+    rw (near, far, none) at c.well_formed-2.ensures

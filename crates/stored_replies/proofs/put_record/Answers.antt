@@ -3,7 +3,6 @@ use Prim.Native.Nat.{ℕ}
 use mathlib.Core.Path.{refl, ap, ◌∙◌}
 use mathlib.Core.List.{List}
 use lib.ListN.{replicate}
-use Rattle.base_laws.specs.Ended.{wrote}
 use Rattle.base_laws.proofs.Stored.{back}
 use Rattle.stored_line.proofs.Laws.{near_fits, far-fits}
 use Rattle.base_laws.specs.Lists.{laid}
@@ -21,4 +20,4 @@ returns c = let copied = c in
     let far = back line.far (far-fits line s.requires.1) in
     copied.copy_octets.ensures
     ∙ ap (λ (l : List ℕ). laid a.at l a.into.now)
-    (record_is line (replicate 24 0) refl s.requires.1 near far wrote.write_line.ensures.0)
+    (record_is line (replicate 24 0) refl s.requires.1 near far wrote.write_line-written.ensures.0)

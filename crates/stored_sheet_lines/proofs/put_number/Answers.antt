@@ -1,5 +1,4 @@
 -- `stored_sheet_lines::put_number` meets its contract: one octet stored, and the number put before it.
-use Prim.Native.Nat.{◌-◌}
 use mathlib.Core.Path.{◌≡◌}
 use mir.Syntax.{w64}
 use mir.Val.{to_z, of_z}

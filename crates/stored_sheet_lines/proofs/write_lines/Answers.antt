@@ -1,11 +1,7 @@
 -- `stored_sheet_lines::write_lines` meets its contract. The loop's invariant: the text of the records so far stands in the buffer, and the
--- text of the rest is
--- still to come. The measure is what is left to read.
+-- text of the rest is still to come.
 use native.Mathlib.Omega.{arith}
-use Prim.Native.Nat.{◌-◌}
-use borrow.Author.Tests.{not-true, not-false}
-use Rattle.base_laws.proofs.Loops.{part-rest}
-use Rattle.stored_sheet_lines.specs.Chunk.{room}
+use mathlib.Core.Path.{◌∙◌}
 use Rattle.stored_sheet_lines.proofs.Chunks.{ends-no-room}
 use Rattle.stored_sheet_lines.proofs.Turns.{at-start, at-end, line-room, turn_stops, turn_goes}
 use Rattle.stored_sheet_lines.proofs.write_lines.Goals as goal
@@ -16,30 +12,28 @@ returns-then-into-lt-LONGEST c = let a = c.args in ends-no-room a.from.now a.int
 pub returns-then-into-from : goal.returns-then-into-from
 returns-then-into-from c = let a = c.args in ends-no-room a.from.now a.into.now (omega arith)
 
-pub loop-i-init : goal.loop-i-init
-loop-i-init c = let a = c.args in (at-start a.from.now a.into.now, omega arith)
+pub loop-record-init : goal.loop-record-init
+loop-record-init c =
+    let all = c.chunks-record-items.ensures in
+    let gives = c.into_iter-record-iterator.ensures.into_iter_gives in
+    (rw (gives, all.rest) (at-start c.args.from.now c.args.into.now), omega arith, rw gives all.size)
 
-pub put_next-turn-requires : goal.put_next-turn-requires
-put_next-turn-requires c = let l = c.loop-i in
-    line-room l.invariant.0 l.invariant.1 c.loop-i-test.true
+pub put_next-requires : goal.put_next-requires
+put_next-requires c = let i = c.loop-record.invariant in line-room i.0 i.1
 
-pub returns-then-not-turn : goal.returns-then-not-turn
-returns-then-not-turn c = let p = c in
-    let l = c.loop-i in
-    let a = c.args in
-    let e = rw (part-rest a.from.now l.i) at p.put_next-turn.ensures in
-    turn_stops l.invariant.0 l.invariant.1 c.loop-i-test.true e.0 e.1 e.2
-    (not-true _ c.if-not-turn.true)
+pub returns-in-Err : goal.returns-in-Err
+returns-in-Err c =
+    let i = c.loop-record.invariant in
+    let e = c.put_next.ensures in
+    let n = c.in-Some.ensures.steps in
+    turn_stops i.0 i.1 _ _ n.1.0 i.2 n.1.1 n.1.2 e.0 e.1 c.in-Err.is
 
-pub loop-i-preserved : goal.loop-i-preserved
-loop-i-preserved c = let p = c in
-    let l = c.loop-i in
-    let a = c.args in
-    let e = rw (part-rest a.from.now l.i) at p.put_next-turn.ensures in (
-      turn_goes l.invariant.0 l.invariant.1 c.loop-i-test.true e.0 e.1 e.2
-          (not-false _ c.if-not-turn.false),
-      l.invariant.1,
-    )
+pub loop-record-preserved : goal.loop-record-preserved
+loop-record-preserved c =
+    let i = c.loop-record.invariant in
+    let e = c.put_next.ensures in
+    let n = c.in-Some.ensures.steps in
+    (turn_goes i.0 i.1 _ _ n.1.0 i.2 n.1.1 n.1.2 e.0 e.1 c.in-Ok.is, i.1, n.0 ∙ i.2)
 
 pub returns : goal.returns
-returns c = at-end c.loop-i.invariant.0 c.loop-i.invariant.1 c.loop-i-test.false
+returns c = let i = c.loop-record.invariant in at-end i.0 i.1 c.in-None.ensures.steps.1.0

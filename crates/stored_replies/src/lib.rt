@@ -92,7 +92,7 @@ pub fn recount(
         return Err(RecountRefusal::NoRoom);
     }
     let mut s = session;
-    // 7.1 ns a reply, and 6.8 where the replies were counted by hand: no bar is missed
+    // 12.3 ns a reply, and 15.7 where replies and octets were counted by hand
     for (i, reply) in from.chunks_exact(REPLY).enumerate() {
         let next = answer_reply(reply, s);
         if next.told.refusal != 0 {

@@ -92,7 +92,7 @@ pub fn recount(
         return Err(RecountRefusal::NoRoom);
     }
     let mut s = session;
-    // 16.0 ns a reply, and 14.8 where replies and octets were counted by hand, where a run may take a third more or less
+    // 16.0 ns a reply, and 14.8 where replies and octets were counted by hand; from turn to turn both vary by a third
     for (i, reply) in from.chunks_exact(REPLY).enumerate() {
         let next = answer_reply(reply, s);
         if next.told.refusal != 0 {
